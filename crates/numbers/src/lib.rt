@@ -1,0 +1,1 @@
+// Laws alone, in specs/: signed words and lists of words.

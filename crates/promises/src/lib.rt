@@ -1,0 +1,1 @@
+// Theorems alone, in specs/: what the user was promised.

@@ -1,0 +1,9 @@
+pub mod Outcome
+pub mod Value
+pub mod Tree
+pub mod Table
+pub mod Run
+pub mod Published
+pub mod Patch
+pub mod Call
+pub mod Computing

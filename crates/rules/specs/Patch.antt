@@ -1,0 +1,362 @@
+-- "Patching": the differential walk through an old record, whatever words it holds.
+-- A walk gets the steps that are left of the limit, the changes so far and the words that are left of the parent's entry. It
+-- reads front to back and never looks ahead: it knows a word when it has read it and a change when it has computed it.
+-- A statement is walked in three steps: `meet` tests the entry's opening words, `visit` applies the skip rule or pays a step,
+-- and `walk` goes through the parts by the statement's kind.
+-- Every refusal is `broken` (12) but two: an operator's new result (8), and fuel (9).
+-- Assumes nothing.
+use Prim.Native.Nat.{ℕ, zero, suc, _+_, _-_, min, compare, Ordering, Ordering·lt, Ordering·eq, Ordering·gt}
+use mathlib.Core.Bool.{Bool, true, false}
+use mathlib.Core.List.{List, [], _∷_, _++_}
+use lib.ListN.{length, set, drop}
+use lib.Dec.{leb}
+use lib.IntN.{ℤ, pos, natAbs}
+use lib.Signed.{leZ}
+use Rattle.numbers.specs.Signed.{eqZ, between}
+use Rattle.rules.specs.Outcome.{Outcome, accepted, refused, _>>=_, need, choose, outOfRange, fuelSpent, broken}
+use Rattle.rules.specs.Value.{Ty, at, typeOf, zeros, most, inType, plus, minus, snapshot, put, minusAll, unchanged}
+use Rattle.rules.specs.Tree.{Expression, constant, variable, operation, Statement, skip, assign, sequence, if, repeat, gives, nodeOf, mentions}
+use Rattle.rules.specs.Run.{compute, entry, Done, holds, times, iterate, ifWords, repeatWords, run}
+
+-- ---- reading words
+
+-- a word, and the words behind it
+pub record Read : Type 0 where
+  pub word : ℤ
+  pub rest : List ℤ
+
+-- the next word; "parts that do not fit" are found here
+unfoldable pub read : List ℤ → Outcome Read
+read [] = refused broken
+read (w ∷ ws) = accepted (record { word = w; rest = ws })
+
+-- the next word, which is in its type
+unfoldable pub readIn : Ty → List ℤ → Outcome Read
+readIn t ws = do
+  r ← read ws
+  _ ← need (inType t (r .word)) broken
+  accepted r
+
+-- an old value plus its change, which is in its type too
+unfoldable pub moved : Ty → ℤ → ℤ → Outcome ℤ
+moved t old change = do
+  _ ← need (inType t (plus t old change)) broken
+  accepted (plus t old change)
+
+-- nothing is left: the last part ends where its parent ends
+unfoldable pub finished : List ℤ → Outcome (Unit {0})
+finished [] = accepted tt
+finished (w ∷ ws) = refused broken
+
+-- the first n words and those behind
+pub record Cut : Type 0 where
+  pub front : List ℤ
+  pub behind : List ℤ
+
+unfoldable pub cut : ℕ → List ℤ → Outcome Cut
+cut zero ws = accepted (record { front = []; behind = ws })
+cut (suc n) [] = refused broken
+cut (suc n) (w ∷ ws) = do
+  c ← cut n ws
+  accepted (record { front = w ∷ c .front; behind = c .behind })
+
+-- ---- expressions
+
+-- an expression's change, its new record, and the words behind its old one
+pub record Shifted : Type 0 where
+  pub change : ℤ
+  pub words : List ℤ
+  pub rest : List ℤ
+
+-- "An operator's new operands are old plus change; its change is new result minus old result." In record order: left word,
+-- right word, old result, left record, left sum, right record, right sum, new result.
+unfoldable pub shift : Expression → List ℤ → List ℤ → Outcome Shifted
+shift (constant n z) changes ws = accepted (record { change = pos 0; words = []; rest = ws })
+shift (variable n v) changes ws = accepted (record { change = at changes v; words = []; rest = ws })
+shift (operation n o a b) changes ws = do
+  l ← readIn Ty.number ws
+  r ← readIn Ty.number (l .rest)
+  old ← compute broken o (l .word) (r .word)
+  x ← shift a changes (r .rest)
+  left ← moved Ty.number (l .word) (x .change)
+  y ← shift b changes (x .rest)
+  right ← moved Ty.number (r .word) (y .change)
+  new ← compute outOfRange o left right
+  accepted (record { change = minus (gives o) new old; words = left ∷ right ∷ (x .words ++ y .words); rest = y .rest })
+
+-- ---- counts
+
+pub record Counts : Type 0 where
+  pub walked : ℕ
+  pub reused : ℕ
+  pub fresh : ℕ
+
+-- "Steps = walked + reused + fresh."
+unfoldable pub stepsOf : Counts → ℕ
+stepsOf c = c .walked + c .reused + c .fresh
+
+unfoldable pub noSteps : Counts
+noSteps = record { walked = 0; reused = 0; fresh = 0 }
+
+unfoldable pub both : Counts → Counts → Counts
+both c d = record { walked = c .walked + d .walked; reused = c .reused + d .reused; fresh = c .fresh + d .fresh }
+
+unfoldable pub oneWalked : Counts → Counts
+oneWalked c = record { walked = suc (c .walked); reused = c .reused; fresh = c .fresh }
+
+unfoldable pub allReused : ℕ → Counts
+allReused n = record { walked = 0; reused = n; fresh = 0 }
+
+unfoldable pub allFresh : ℕ → Counts
+allFresh n = record { walked = 0; reused = 0; fresh = n }
+
+-- ---- an entry met
+
+-- its steps, all its words, those behind the three opening ones, and what stands behind it in its parent
+pub record Entry : Type 0 where
+  pub steps : ℕ
+  pub words : List ℤ
+  pub parts : List ℤ
+  pub behind : List ℤ
+
+-- an entry that is a last part leaves nothing behind
+unfoldable pub ends : Bool → List ℤ → Bool
+ends false ws = true
+ends true [] = true
+ends true (w ∷ ws) = false
+
+unfoldable pub mostSteps : ℤ
+mostSteps = pos 1_000_000
+
+-- "An entry met: under 3 words left, wrong node, size under 3 or past its parent, steps outside 1..1,000,000"; and "an entry
+-- that is a last part is tested against its parent's end when its size is read".
+unfoldable pub meet : ℕ → Bool → List ℤ → Outcome Entry
+meet node last [] = refused broken
+meet node last (n ∷ []) = refused broken
+meet node last (n ∷ size ∷ []) = refused broken
+meet node last (n ∷ size ∷ steps ∷ ws) = do
+  _ ← need (eqZ n (pos node)) broken
+  _ ← need (leZ (pos 3) size) broken
+  c ← cut (natAbs size - 3) ws
+  _ ← need (ends last (c .behind)) broken
+  _ ← need (between (pos 1) mostSteps steps) broken
+  accepted
+      (record { steps = natAbs steps; words = n ∷ size ∷ steps ∷ c .front; parts = c .front; behind = c .behind })
+
+-- ---- the skip rule, or a walked step
+
+-- what a walk through an entry's parts ends with: the changes behind it, its counts, the new words of the parts
+pub record Walked : Type 0 where
+  pub changes : List ℤ
+  pub counts : Counts
+  pub words : List ℤ
+
+-- the same of a whole entry, with the words behind it in its parent
+pub record Visited : Type 0 where
+  pub changes : List ℤ
+  pub counts : Counts
+  pub words : List ℤ
+  pub rest : List ℤ
+
+-- a walk through parts: steps left, changes so far, the parts' old words
+abbrev pub Walk : Type 0
+Walk = ℕ → List ℤ → List ℤ → Outcome Walked
+
+-- "Copy the entry; its steps go to reused; changes pass through. If steps so far plus its steps exceed the limit: 9."
+unfoldable pub skipped : Entry → ℕ → List ℤ → Outcome Visited
+skipped e fuel changes = do
+  _ ← need (leb (e .steps) fuel) fuelSpent
+  accepted (record { changes = changes; counts = allReused (e .steps); words = e .words; rest = e .behind })
+
+-- "Otherwise walked grows by one (9 if the limit is used up) and its kind decides."
+unfoldable pub paid : ℕ → Walk → Entry → ℕ → List ℤ → Outcome Visited
+paid node inside e zero changes = refused fuelSpent
+paid node inside e (suc left) changes = do
+  w ← inside left changes (e .parts)
+  let counts = oneWalked (w .counts) in accepted
+      (record {
+        changes = w .changes;
+        counts = counts;
+        words = entry node (stepsOf counts) (w .words);
+        rest = e .behind;
+      })
+
+-- a statement's entry: "If all mentioned variables have change 0, copy the entry", else walk it
+unfoldable pub visit : Statement → Walk → Bool → ℕ → List ℤ → List ℤ → Outcome Visited
+visit s inside last fuel changes ws = do
+  e ← meet (nodeOf s) last ws
+  choose (unchanged (mentions s) changes) skipped (paid (nodeOf s) inside) e fuel changes
+
+-- ---- by the statement's kind
+
+-- a snapshot's words, each in its type, and the words behind them
+pub record Snapshot : Type 0 where
+  pub values : List ℤ
+  pub rest : List ℤ
+
+-- what an if's walk has read and computed when its branch begins: steps left, changes, the variables mentioned, the old
+-- condition, the new snapshot before, the old snapshot after, the condition's shift
+pub record Fork : Type 0 where
+  pub left : ℕ
+  pub changes : List ℤ
+  pub vs : List ℕ
+  pub condition : ℤ
+  pub before : List ℤ
+  pub after : List ℤ
+  pub test : Shifted
+
+-- where a repeat's walk stands between two iterations: steps left, changes, the last old and new snapshot, the words behind
+pub record Turn : Type 0 where
+  pub left : ℕ
+  pub changes : List ℤ
+  pub old : List ℤ
+  pub new : List ℤ
+  pub rest : List ℤ
+
+-- where some iterations lead, with their counts and new words
+pub record Turned : Type 0 where
+  pub turn : Turn
+  pub counts : Counts
+  pub words : List ℤ
+
+module _ (types : List Ty) where
+  unfoldable pub readSnapshot : List ℕ → List ℤ → Outcome Snapshot
+  readSnapshot [] ws = accepted (record { values = []; rest = ws })
+  readSnapshot (v ∷ vs) ws = do
+    r ← readIn (typeOf types v) ws
+    s ← readSnapshot vs (r .rest)
+    accepted (record { values = r .word ∷ s .values; rest = s .rest })
+
+  -- a snapshot plus the changes
+  unfoldable pub movedAll : List ℕ → List ℤ → List ℤ → Outcome (List ℤ)
+  movedAll [] olds changes = accepted []
+  movedAll (v ∷ vs) [] changes = accepted []
+  movedAll (v ∷ vs) (o ∷ os) changes = do
+    z ← moved (typeOf types v) o (at changes v)
+    zs ← movedAll vs os changes
+    accepted (z ∷ zs)
+
+  -- "If, condition kept: the branch is patched; both snapshots take the changes before and after it."
+  unfoldable pub kept : (Bool → ℕ → List ℤ → List ℤ → Outcome Visited) → Fork → Outcome Walked
+  kept branch f = do
+    b ← branch true (f .left) (f .changes) (f .test .rest)
+    after ← movedAll (f .vs) (f .after) (b .changes)
+    accepted
+        (record {
+          changes = b .changes;
+          counts = b .counts;
+          words = ifWords (f .condition) (f .before) after (f .test .words) (b .words);
+        })
+
+  -- "If, condition flipped: the other branch is run fresh from the old snapshot plus changes; each mentioned variable's change
+  -- is its new value minus its old snapshot after; others pass."
+  unfoldable pub flipped : (ℕ → List ℤ → Outcome Done) → Fork → Outcome Walked
+  flipped branch f = do
+    d ← branch (f .left) (put (f .vs) (f .before) (zeros most))
+    let after = snapshot (f .vs) (d .store) in accepted
+        (record {
+          changes = put (f .vs) (minusAll types (f .vs) after (f .after)) (f .changes);
+          counts = allFresh (d .steps);
+          words =
+              ifWords (plus Ty.truth (f .condition) (f .test .change)) (f .before) after (f .test .words) (d .words);
+        })
+
+  -- the iterations that stay: each patches the body, and its snapshot takes the changes
+  unfoldable pub turns : (ℕ → List ℤ → List ℤ → Outcome Visited) → List ℕ → ℕ → Turn → Outcome Turned
+  turns body vs zero t = accepted (record { turn = t; counts = noSteps; words = [] })
+  turns body vs (suc n) t = do
+    b ← body (t .left) (t .changes) (t .rest)
+    old ← readSnapshot vs (b .rest)
+    new ← movedAll vs (old .values) (b .changes)
+    r ← turns body vs n
+        (record {
+          left = t .left - stepsOf (b .counts);
+          changes = b .changes;
+          old = old .values;
+          new = new;
+          rest = old .rest;
+        })
+    accepted
+        (record { turn = r .turn; counts = both (b .counts) (r .counts); words = b .words ++ (new ++ r .words) })
+
+  -- "Of a dropped tail only the last snapshot is read: it is the entry's last words and must lie behind the walked parts."
+  unfoldable pub lastSnapshot : List ℕ → List ℤ → Outcome Snapshot
+  lastSnapshot vs ws = do
+    _ ← need (leb (length vs) (length ws)) broken
+    readSnapshot vs (drop (length ws - length vs) ws)
+
+  -- the iterations that stay are done; k old ones and k′ new ones compare so
+  unfoldable pub close : Ordering → (ℕ → List ℤ → Outcome Done) → List ℕ → Turned → Outcome Walked
+  close Ordering·eq more vs u = do
+    _ ← finished (u .turn .rest)
+    accepted (record { changes = u .turn .changes; counts = u .counts; words = u .words })
+  close Ordering·lt more vs u = do
+    _ ← finished (u .turn .rest)
+    d ← more (u .turn .left) (put vs (u .turn .new) (zeros most))
+    accepted
+        (record {
+          changes = put vs (minusAll types vs (snapshot vs (d .store)) (u .turn .old)) (u .turn .changes);
+          counts = both (u .counts) (allFresh (d .steps));
+          words = u .words ++ d .words;
+        })
+  close Ordering·gt more vs u = do
+    tail ← lastSnapshot vs (u .turn .rest)
+    accepted
+        (record {
+          changes = put vs (minusAll types vs (u .turn .new) (tail .values)) (u .turn .changes);
+          counts = u .counts;
+          words = u .words;
+        })
+
+  -- "Repeat with old iterations k and new k′: the first min(k, k′) are patched. If k′ > k the rest run fresh. If k′ differs from
+  -- k, each mentioned variable's change is new value minus old last snapshot."
+  unfoldable pub loop : Statement → (ℕ → List ℤ → List ℤ → Outcome Visited) → List ℕ → ℕ → ℕ → Turn → Outcome Walked
+  loop s body vs k k′ t = do
+    u ← turns body vs (min k k′) t
+    close (compare k k′) (iterate (run s) vs (k′ - k)) vs u
+
+  unfoldable pub walk : Statement → Walk
+  walk (skip n) left changes ws = do
+    _ ← finished ws
+    accepted (record { changes = changes; counts = noSteps; words = [] })
+  walk (assign n v e) left changes ws = do
+    x ← shift e changes ws
+    _ ← finished (x .rest)
+    accepted (record { changes = set changes v (x .change); counts = noSteps; words = x .words })
+  walk (sequence n s t) left changes ws = do
+    a ← visit s (walk s) false left changes ws
+    b ← visit t (walk t) true (left - stepsOf (a .counts)) (a .changes) (a .rest)
+    accepted (record { changes = b .changes; counts = both (a .counts) (b .counts); words = a .words ++ b .words })
+  walk (if n e s t) left changes ws =
+      let vs = mentions (if n e s t) in do
+        old ← readIn Ty.truth ws
+        b ← readSnapshot vs (old .rest)
+        before ← movedAll vs (b .values) changes
+        a ← readSnapshot vs (b .rest)
+        x ← shift e changes (a .rest)
+        let f : Fork = record {
+          left = left;
+          changes = changes;
+          vs = vs;
+          condition = old .word;
+          before = before;
+          after = a .values;
+          test = x;
+        } in choose (eqZ (x .change) (pos 0))
+            (kept (choose (holds (old .word)) (visit s (walk s)) (visit t (walk t))))
+            (flipped (choose (holds (old .word)) (run t) (run s))) f
+  walk (repeat n e s) left changes ws =
+      let vs = mentions (repeat n e s) in do
+        old ← readIn Ty.number ws
+        b ← readSnapshot vs (old .rest)
+        before ← movedAll vs (b .values) changes
+        x ← shift e changes (b .rest)
+        count ← moved Ty.number (old .word) (x .change)
+        w ← loop s (visit s (walk s) false) vs (times (old .word)) (times count)
+            (record { left = left; changes = changes; old = b .values; new = before; rest = x .rest })
+        accepted
+            (record {
+              changes = w .changes;
+              counts = w .counts;
+              words = repeatWords count before (x .words) (w .words);
+            })

@@ -1,0 +1,1 @@
+// Definitions alone, in specs/: what tables, runs, records and patches mean.
