@@ -7,3 +7,4 @@ pub mod Published
 pub mod Patch
 pub mod Call
 pub mod Computing
+pub mod Laws

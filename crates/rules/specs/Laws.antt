@@ -1,0 +1,4 @@
+pub mod Outcome
+pub mod Value
+pub mod Mentions
+pub mod Store

@@ -1,0 +1,70 @@
+-- Laws of outcomes: what holds of a value if there is one (`Holds`), and that two computations go alike (`Alike`): both accepted
+-- with related values, or both refused for the same reason. Each law follows `>>=`, so that a proof about a `do` block goes
+-- line by line.
+-- Assumes nothing.
+use mathlib.Core.Path.{_≡_, refl, sym, subst}
+use mathlib.Core.Bool.{Bool, true, false}
+use Rattle.rules.specs.Outcome.{Refusal, Outcome, accepted, refused, _>>=_, need, choose}
+
+-- ---- P of the value, if accepted
+
+pub data Holds {A : Type 0} (P : A → Type 0) : Outcome A → Type 0 where
+  value : {a : A} → P a → Holds P (accepted a)
+  vacant : {r : Refusal} → Holds P (refused r)
+
+pub holds-bind : {A B : Type 0} {P : A → Type 0} {Q : B → Type 0} (m : Outcome A) (next : A → Outcome B)
+    → Holds P m → ((a : A) → P a → Holds Q (next a)) → Holds Q (m >>= next)
+holds-bind m next (value p) step = step _ p
+holds-bind m next vacant step = vacant
+
+-- what a passed test leaves
+pub holds-need : {B : Type 0} {Q : B → Type 0} (b : Bool) (r : Refusal) (next : Unit {0} → Outcome B)
+    → (b ≡ true → Holds Q (next tt)) → Holds Q (need b r >>= next)
+holds-need true r next step = step refl
+holds-need false r next step = vacant
+
+pub holds-both : {A : Type 0} {P Q : A → Type 0} {m : Outcome A} → Holds P m → Holds Q m → Holds (λ a. P a × Q a) m
+holds-both (value p) (value q) = value (p, q)
+holds-both vacant vacant = vacant
+
+pub holds-map : {A : Type 0} {P Q : A → Type 0} {m : Outcome A} → ((a : A) → P a → Q a) → Holds P m → Holds Q m
+holds-map f (value p) = value (f _ p)
+holds-map f vacant = vacant
+
+-- it holds of a value that is there
+pub holds-of : {A : Type 0} {P : A → Type 0} {a : A} → Holds P (accepted a) → P a
+holds-of (value p) = p
+
+-- to show it, the value may be taken as known
+pub holds-if : {A : Type 0} {P : A → Type 0} (m : Outcome A) → ((a : A) → m ≡ accepted a → P a) → Holds P m
+holds-if (accepted a) f = value (f a refl)
+holds-if (refused r) f = vacant
+
+-- ---- two computations go alike
+
+pub data Alike {A B : Type 0} (R : A → B → Type 0) : Outcome A → Outcome B → Type 0 where
+  values : {a : A} {b : B} → R a b → Alike R (accepted a) (accepted b)
+  refusals : {r : Refusal} → Alike R (refused r) (refused r)
+
+pub alike-bind : {A B C D : Type 0} {R : A → B → Type 0} {S : C → D → Type 0} (m : Outcome A) (n : Outcome B)
+    (f : A → Outcome C) (g : B → Outcome D)
+    → Alike R m n → ((a : A) (b : B) → R a b → Alike S (f a) (g b)) → Alike S (m >>= f) (n >>= g)
+alike-bind m n f g (values h) step = step _ _ h
+alike-bind m n f g refusals step = refusals
+
+-- the same test on both sides
+pub alike-need : {C D : Type 0} {S : C → D → Type 0} (b : Bool) (r : Refusal) (f : Unit {0} → Outcome C) (g : Unit {0} → Outcome D)
+    → (b ≡ true → Alike S (f tt) (g tt)) → Alike S (need b r >>= f) (need b r >>= g)
+alike-need true r f g step = step refl
+alike-need false r f g step = refusals
+
+-- with what holds of the left value
+pub alike-with : {A B : Type 0} {R : A → B → Type 0} {P : A → Type 0} {m : Outcome A} {n : Outcome B}
+    → Holds P m → Alike R m n → Alike (λ a b. P a × R a b) m n
+alike-with (value p) (values h) = values (p, h)
+alike-with vacant refusals = refusals
+
+pub alike-map : {A B : Type 0} {R S : A → B → Type 0} {m : Outcome A} {n : Outcome B}
+    → ((a : A) (b : B) → R a b → S a b) → Alike R m n → Alike S m n
+alike-map f (values h) = values (f _ _ h)
+alike-map f refusals = refusals
