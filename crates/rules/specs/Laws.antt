@@ -2,3 +2,5 @@ pub mod Outcome
 pub mod Value
 pub mod Mentions
 pub mod Store
+pub mod Typed
+pub mod Run

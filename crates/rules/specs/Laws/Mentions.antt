@@ -8,7 +8,7 @@ use mathlib.Core.List.{List, [], _∷_, List·Memᴰ, List·Memᴰ·head, List·
 use native.Mathlib.Decide.{ℕ-discrete}
 use lib.Dec.{isEq}
 use borrow.Author.Tests.{eqb-true}
-use Rattle.rules.specs.Tree.{among, insert, union}
+use Rattle.rules.specs.Tree.{Expression, Statement, assign, sequence, if, repeat, among, insert, union, reads, mentions}
 
 -- v is one of vs
 infix 30 _∈_
@@ -66,3 +66,44 @@ pub union-left : (vs ws : List ℕ) → vs ⊆ union vs ws
 unfolding union
 union-left (v ∷ vs) ws u (List·Memᴰ·head e) = Memᴰ·cast e (insert-new v (union vs ws))
 union-left (v ∷ vs) ws u (List·Memᴰ·tail h) = insert-old v (union vs ws) u (union-left vs ws u h)
+
+-- ---- a statement's parts
+
+module _ (n : ℕ) (s t : Statement) where
+  pub sequence-first : mentions s ⊆ mentions (sequence n s t)
+  unfolding mentions
+  sequence-first = union-left (mentions s) (mentions t)
+
+  pub sequence-second : mentions t ⊆ mentions (sequence n s t)
+  unfolding mentions
+  sequence-second = union-right (mentions s) (mentions t)
+
+module _ (n : ℕ) (e : Expression) (s t : Statement) where
+  pub if-condition : reads e ⊆ mentions (if n e s t)
+  unfolding mentions
+  if-condition = union-left (reads e) (union (mentions s) (mentions t))
+
+  pub if-then : mentions s ⊆ mentions (if n e s t)
+  unfolding mentions
+  if-then v m = union-right (reads e) (union (mentions s) (mentions t)) v (union-left (mentions s) (mentions t) v m)
+
+  pub if-else : mentions t ⊆ mentions (if n e s t)
+  unfolding mentions
+  if-else v m = union-right (reads e) (union (mentions s) (mentions t)) v (union-right (mentions s) (mentions t) v m)
+
+module _ (n : ℕ) (e : Expression) (s : Statement) where
+  pub repeat-count : reads e ⊆ mentions (repeat n e s)
+  unfolding mentions
+  repeat-count = union-left (reads e) (mentions s)
+
+  pub repeat-body : mentions s ⊆ mentions (repeat n e s)
+  unfolding mentions
+  repeat-body = union-right (reads e) (mentions s)
+
+  pub assign-expression : (v : ℕ) → reads e ⊆ mentions (assign n v e)
+  unfolding mentions
+  assign-expression v = insert-old v (reads e)
+
+  pub assign-variable : (v : ℕ) → v ∈ mentions (assign n v e)
+  unfolding mentions
+  assign-variable v = insert-new v (reads e)

@@ -68,3 +68,9 @@ pub alike-map : {A B : Type 0} {R S : A → B → Type 0} {m : Outcome A} {n : O
     → ((a : A) (b : B) → R a b → S a b) → Alike R m n → Alike S m n
 alike-map f (values h) = values (f _ _ h)
 alike-map f refusals = refusals
+
+-- the same computation first on both sides
+pub alike-after : {A C D : Type 0} {S : C → D → Type 0} (m : Outcome A) (f : A → Outcome C) (g : A → Outcome D)
+    → ((a : A) → Alike S (f a) (g a)) → Alike S (m >>= f) (m >>= g)
+alike-after (accepted a) f g step = step a
+alike-after (refused r) f g step = refusals

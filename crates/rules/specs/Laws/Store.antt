@@ -16,23 +16,19 @@ use Rattle.rules.specs.Outcome.{Outcome, accepted, refused, _>>=_, need}
 use Rattle.rules.specs.Value.{Ty, inType, plus, minus, at, typeOf, snapshot, put, minusAll, unchanged}
 use Rattle.rules.specs.Patch.{read, readIn, moved, readSnapshot, movedAll}
 use Rattle.rules.specs.Laws.Value.{plus-minus, minus-self, unmoved}
-use Rattle.rules.specs.Laws.Mentions.{_∈_, is-member}
+use Rattle.rules.specs.Laws.Mentions.{_∈_, _⊆_, is-member}
 
 -- every variable's value is in its type
 abbrev pub Good : List Ty → List ℤ → Type 0
 Good types store = (v : ℕ) → inType (typeOf types v) (at store v) ≡ true
 
 -- the stores agree on these variables
-abbrev pub Agree : List ℕ → List ℤ → List ℤ → Type 0
-Agree vs store other = (v : ℕ) → v ∈ vs → at store v ≡ at other v
+pub record Agree (vs : List ℕ) (store other : List ℤ) : Type 0 where
+  pub long : length store ≡ length other
+  pub on : (v : ℕ) → v ∈ vs → at store v ≡ at other v
 
--- ---- the difference of two stores
-
-unfoldable pub difference : List Ty → List ℤ → List ℤ → List ℤ
-difference types [] olds = []
-difference types (n ∷ ns) [] = []
-difference [] (n ∷ ns) (o ∷ os) = minus Ty.number n o ∷ difference [] ns os
-difference (t ∷ ts) (n ∷ ns) (o ∷ os) = minus t n o ∷ difference ts ns os
+pub agree-part : {vs ws : List ℕ} {store other : List ℤ} → vs ⊆ ws → Agree ws store other → Agree vs store other
+agree-part sub h = record { long = h .long; on = λ v m. h .on v (sub v m) }
 
 suc-injective : {a b : ℕ} → suc a ≡ suc b → a ≡ b
 suc-injective e = cc
@@ -43,6 +39,30 @@ apart n e = absurd (no-number e)
   where
     no-number : suc n ≡ 0 → ⊥
     no-number e = omega arith
+
+set-alike : (store other : List ℤ) → length store ≡ length other → (v : ℕ) (z : ℤ) (w : ℕ)
+    → at store w ≡ at other w → at (set store v z) w ≡ at (set other v z) w
+set-alike [] [] e v z w h = h
+set-alike [] (o ∷ os) e v z w h = apart (length os) (sym e)
+set-alike (s ∷ ss) [] e v z w h = apart (length ss) e
+set-alike (s ∷ ss) (o ∷ os) e zero z zero h = refl
+set-alike (s ∷ ss) (o ∷ os) e zero z (suc w) h = h
+set-alike (s ∷ ss) (o ∷ os) e (suc v) z zero h = h
+set-alike (s ∷ ss) (o ∷ os) e (suc v) z (suc w) h = set-alike ss os (suc-injective e) v z w h
+
+-- a variable set alike in both
+pub agree-set : {vs : List ℕ} {store other : List ℤ} (v : ℕ) (z : ℤ) → Agree vs store other → Agree vs (set store v z) (set other v z)
+agree-set {store} {other} v z h = record {
+  long = length-set store v z ∙ h .long ∙ sym (length-set other v z);
+  on = λ w m. set-alike store other (h .long) v z w (h .on w m) }
+
+-- ---- the difference of two stores
+
+unfoldable pub difference : List Ty → List ℤ → List ℤ → List ℤ
+difference types [] olds = []
+difference types (n ∷ ns) [] = []
+difference [] (n ∷ ns) (o ∷ os) = minus Ty.number n o ∷ difference [] ns os
+difference (t ∷ ts) (n ∷ ns) (o ∷ os) = minus t n o ∷ difference ts ns os
 
 pub length-difference : (types : List Ty) (news olds : List ℤ) → length news ≡ length olds → length (difference types news olds) ≡ length news
 unfolding difference
@@ -79,7 +99,7 @@ pub snapshot-agree : (vs : List ℕ) (store other : List ℤ) → Agree vs store
 unfolding snapshot
 snapshot-agree [] store other h = refl
 snapshot-agree (v ∷ vs) store other h =
-    ap₂ {C = List ℤ} (λ z zs. z ∷ zs) (h v (List·Memᴰ·head refl)) (snapshot-agree vs store other (λ u m. h u (List·Memᴰ·tail m)))
+    ap₂ {C = List ℤ} (λ z zs. z ∷ zs) (h .on v (List·Memᴰ·head refl)) (snapshot-agree vs store other (agree-part (λ u m. List·Memᴰ·tail m) h))
 
 -- the words of a snapshot are read back
 pub read-back : (types : List Ty) (vs : List ℕ) (store rest : List ℤ) → Good types store
@@ -104,13 +124,19 @@ minus-snapshots types [] new old e = refl
 minus-snapshots types (v ∷ vs) new old e =
     ap₂ {C = List ℤ} (λ z zs. z ∷ zs) (sym (at-difference types new old e v)) (minus-snapshots types vs new old e)
 
+unchanged-on : (types : List Ty) (vs : List ℕ) (new old : List ℤ) → length new ≡ length old → Good types old → Good types new
+    → unchanged vs (difference types new old) ≡ true → (v : ℕ) → v ∈ vs → at new v ≡ at old v
+unfolding unchanged
+unchanged-on types (w ∷ vs) new old e go gn h v (List·Memᴰ·head q) =
+    rw q (unmoved (typeOf types w) (at old w) (at new w) (go w) (gn w)
+      (sym (at-difference types new old e w) ∙ eqZ-true _ _ (and-left (eqZ (at (difference types new old) w) (pos 0)) _ h)))
+unchanged-on types (w ∷ vs) new old e go gn h v (List·Memᴰ·tail m) =
+    unchanged-on types vs new old e go gn (and-right (eqZ (at (difference types new old) w) (pos 0)) _ h) v m
+
 -- where the skip rule's test passes, the stores agree
 pub unchanged-agree : (types : List Ty) (vs : List ℕ) (new old : List ℤ) → length new ≡ length old → Good types old → Good types new
     → unchanged vs (difference types new old) ≡ true → Agree vs new old
-unfolding unchanged
-unchanged-agree types (w ∷ vs) new old e go gn h v (List·Memᴰ·head q) =
-    rw q (unmoved (typeOf types w) (at old w) (at new w) (go w) (gn w) (sym (at-difference types new old e w) ∙ eqZ-true _ _ (and-left (eqZ (at (difference types new old) w) (pos 0)) _ h)))
-unchanged-agree types (w ∷ vs) new old e go gn h v (List·Memᴰ·tail m) = unchanged-agree types vs new old e go gn (and-right (eqZ (at (difference types new old) w) (pos 0)) _ h) v m
+unchanged-agree types vs new old e go gn h = record { long = e; on = unchanged-on types vs new old e go gn h }
 
 -- ---- what is put back from a snapshot
 
