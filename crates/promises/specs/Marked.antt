@@ -57,7 +57,7 @@ recordP =
 unfoldable pub shrunkP : List ℤ
 shrunkP = pos 13 ∷ pos 100 ∷ pos 1 ∷ pos 0 ∷ pos 10 ∷ pos 0 ∷ pos 10 ∷ pos 5 ∷ pos 6 ∷ pos 1 ∷ pos 0 ∷ pos 0 ∷ pos 10 ∷ []
 
--- the same with n and the count -1
+-- "count -1": the document gives the count and the changes; the other words are those of (-2 0), with n below 0
 unfoldable pub negativeP : List ℤ
 negativeP =
     pos 13 ∷ pos 100 ∷ pos 1 ∷ negsuc 0 ∷ pos 10 ∷ negsuc 0 ∷ pos 10 ∷ pos 5 ∷ pos 6 ∷ pos 1 ∷ negsuc 0 ∷ negsuc 0 ∷ pos 10 ∷ []

@@ -11,11 +11,11 @@ use lib.Dec.{leb}
 use lib.IntN.{ℤ, pos, natAbs}
 use lib.Signed.{leZ}
 use Rattle.numbers.specs.Signed.{between}
-use Rattle.rules.specs.Outcome.{number, numberOf, Outcome, accepted, refused, _>>=_, need, storeWrong, limitWrong, roomShort, changeWrong, broken}
-use Rattle.rules.specs.Value.{Ty, at, inType, plus, zeros, most, padded, fit, plusAll}
+use Rattle.rules.specs.Outcome.{paperNumber, numberOf, Outcome, accepted, refused, _>>=_, need, storeWrong, limitWrong, roomShort, changeWrong, broken}
+use Rattle.rules.specs.Value.{Ty, at, inType, plus, zeros, mostVariables, padded, fit, plusAll}
 use Rattle.rules.specs.Table.{Program, check}
-use Rattle.rules.specs.Run.{run, recordOf}
-use Rattle.rules.specs.Patch.{Counts, stepsOf, noSteps, allFresh, mostSteps, visit, walk}
+use Rattle.rules.specs.Run.{headed, mostSteps, run, recordOf}
+use Rattle.rules.specs.Patch.{Counts, stepsOf, noSteps, allFresh, visit, walk}
 
 -- ---- the answer
 
@@ -23,6 +23,7 @@ use Rattle.rules.specs.Patch.{Counts, stepsOf, noSteps, allFresh, mostSt
 -- the outcome is its number, 0 for accepted
 pub record Answer : Type 0 where
   pub number : ℕ
+  pub steps : ℕ
   pub counts : Counts
   pub length : ℕ
   pub values : List ℤ
@@ -52,6 +53,7 @@ unfoldable pub answered : ℕ → Outcome Finished → Called
 answered room (accepted f) = record {
   answer = record {
     number = 0;
+    steps = stepsOf (f .counts);
     counts = f .counts;
     length = length (f .words);
     values = f .values;
@@ -61,11 +63,12 @@ answered room (accepted f) = record {
 }
 answered room (refused r) = record {
   answer = record {
-    number = number r;
+    number = paperNumber r;
+    steps = 0;
     counts = noSteps;
     length = 0;
-    values = zeros most;
-    changes = zeros most;
+    values = zeros mostVariables;
+    changes = zeros mostVariables;
   };
   buffer = zeros room;
 }
@@ -90,7 +93,7 @@ finishRun bytes inputs limit = do
         counts = allFresh (d .steps);
         words = recordOf (natAbs limit) (d .steps) inputs outputs (d .words);
         values = padded outputs;
-        changes = zeros most;
+        changes = zeros mostVariables;
       })
 
 unfoldable pub callRun : List ℕ → List ℤ → ℤ → ℕ → Called
@@ -109,7 +112,10 @@ pub record Header : Type 0 where
 -- 1..limit; an input or output outside its type."
 unfoldable pub header : List Ty → List ℤ → Outcome Header
 header types old =
-    let n = length types in let least = 3 + 2 * n in let inputs = take n (drop 3 old) in let outputs = take n (drop (3 + n) old) in do
+    let n = length types in
+    let least = headed + 2 * n in
+    let inputs = take n (drop headed old) in
+    let outputs = take n (drop (headed + n) old) in do
       _ ← need (leb least (length old)) broken
       _ ← need (leZ (pos least) (at old 0)) broken
       _ ← need (leZ (at old 0) (pos (length old))) broken
@@ -128,7 +134,7 @@ header types old =
 -- a truth's change is 0 or 1
 unfoldable pub isChange : Ty → ℤ → Bool
 isChange Ty.number c = true
-isChange Ty.truth c = between (pos 0) (pos 1) c
+isChange Ty.truth c = inType Ty.truth c
 
 -- not "11: change list length not V, a truth change not 0 or 1, or a new input out of range"
 unfoldable pub legal : List Ty → List ℤ → List ℤ → Bool

@@ -4,3 +4,5 @@ pub mod Mentions
 pub mod Store
 pub mod Typed
 pub mod Run
+pub mod Shift
+pub mod Entry

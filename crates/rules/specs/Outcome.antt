@@ -20,19 +20,19 @@ pub data Refusal : Type 0 where
   broken : Refusal
 
 -- the paper's number
-unfoldable pub number : Refusal → ℕ
-number headerWrong = 1
-number typeWrong = 2
-number nodeWrong = 3
-number useWrong = 4
-number tooDeep = 5
-number storeWrong = 6
-number limitWrong = 7
-number outOfRange = 8
-number fuelSpent = 9
-number roomShort = 10
-number changeWrong = 11
-number broken = 12
+unfoldable pub paperNumber : Refusal → ℕ
+paperNumber headerWrong = 1
+paperNumber typeWrong = 2
+paperNumber nodeWrong = 3
+paperNumber useWrong = 4
+paperNumber tooDeep = 5
+paperNumber storeWrong = 6
+paperNumber limitWrong = 7
+paperNumber outOfRange = 8
+paperNumber fuelSpent = 9
+paperNumber roomShort = 10
+paperNumber changeWrong = 11
+paperNumber broken = 12
 
 pub data Outcome (A : Type 0) : Type 0 where
   accepted : A → Outcome A
@@ -41,7 +41,7 @@ pub data Outcome (A : Type 0) : Type 0 where
 -- the paper's number of an outcome: 0 for accepted
 unfoldable pub numberOf : {A : Type 0} → Outcome A → ℕ
 numberOf (accepted a) = 0
-numberOf (refused r) = number r
+numberOf (refused r) = paperNumber r
 
 -- go on with the value; a refusal is handed up unchanged
 infixl 10 _>>=_

@@ -14,9 +14,9 @@ use lib.IntN.{ℤ, pos, natAbs}
 use lib.Signed.{leZ}
 use Rattle.numbers.specs.Signed.{eqZ, between}
 use Rattle.rules.specs.Outcome.{Outcome, accepted, refused, _>>=_, need, choose, outOfRange, fuelSpent, broken}
-use Rattle.rules.specs.Value.{Ty, at, typeOf, zeros, most, inType, plus, minus, snapshot, put, minusAll, unchanged}
+use Rattle.rules.specs.Value.{Ty, at, typeOf, zeros, mostVariables, inType, plus, minus, snapshot, put, minusAll, unchanged}
 use Rattle.rules.specs.Tree.{Expression, constant, variable, operation, Statement, skip, assign, sequence, if, repeat, gives, nodeOf, mentions}
-use Rattle.rules.specs.Run.{compute, entry, Done, holds, times, iterate, ifWords, repeatWords, run}
+use Rattle.rules.specs.Run.{compute, opening, entry, mostSteps, Done, holds, times, iterate, ifWords, repeatWords, run}
 
 -- ---- reading words
 
@@ -125,9 +125,6 @@ ends false ws = true
 ends true [] = true
 ends true (w ∷ ws) = false
 
-unfoldable pub mostSteps : ℤ
-mostSteps = pos 1_000_000
-
 -- "An entry met: under 3 words left, wrong node, size under 3 or past its parent, steps outside 1..1,000,000"; and "an entry
 -- that is a last part is tested against its parent's end when its size is read".
 unfoldable pub meet : ℕ → Bool → List ℤ → Outcome Entry
@@ -136,8 +133,8 @@ meet node last (n ∷ []) = refused broken
 meet node last (n ∷ size ∷ []) = refused broken
 meet node last (n ∷ size ∷ steps ∷ ws) = do
   _ ← need (eqZ n (pos node)) broken
-  _ ← need (leZ (pos 3) size) broken
-  c ← cut (natAbs size - 3) ws
+  _ ← need (leZ (pos opening) size) broken
+  c ← cut (natAbs size - opening) ws
   _ ← need (ends last (c .behind)) broken
   _ ← need (between (pos 1) mostSteps steps) broken
   accepted
@@ -227,7 +224,7 @@ module _ (types : List Ty) where
     s ← readSnapshot vs (r .rest)
     accepted (record { values = r .word ∷ s .values; rest = s .rest })
 
-  -- a snapshot plus the changes
+  -- a snapshot plus the changes; it has a word for each of the variables
   unfoldable pub movedAll : List ℕ → List ℤ → List ℤ → Outcome (List ℤ)
   movedAll [] olds changes = accepted []
   movedAll (v ∷ vs) [] changes = accepted []
@@ -252,7 +249,7 @@ module _ (types : List Ty) where
   -- is its new value minus its old snapshot after; others pass."
   unfoldable pub flipped : (ℕ → List ℤ → Outcome Done) → Fork → Outcome Walked
   flipped branch f = do
-    d ← branch (f .left) (put (f .vs) (f .before) (zeros most))
+    d ← branch (f .left) (put (f .vs) (f .before) (zeros mostVariables))
     let after = snapshot (f .vs) (d .store) in accepted
         (record {
           changes = put (f .vs) (minusAll types (f .vs) after (f .after)) (f .changes);
@@ -292,7 +289,7 @@ module _ (types : List Ty) where
     accepted (record { changes = u .turn .changes; counts = u .counts; words = u .words })
   close Ordering·lt more vs u = do
     _ ← finished (u .turn .rest)
-    d ← more (u .turn .left) (put vs (u .turn .new) (zeros most))
+    d ← more (u .turn .left) (put vs (u .turn .new) (zeros mostVariables))
     accepted
         (record {
           changes = put vs (minusAll types vs (snapshot vs (d .store)) (u .turn .old)) (u .turn .changes);

@@ -1,7 +1,8 @@
 -- The published big-step rules: Figure 2 of document 001, rule by rule in its order, as an inductive relation on the trees.
--- Two things are added to the figure, and nothing else: an operator's result must be in range, and a derivation counts its
--- statements. A repeat counts once however often it is unrolled: the figure's premise for `repeat n` is the same statement.
--- Document 001 has rules for 0 and n + 1; that a count below 0 runs nothing too is document 01's.
+-- What is added to the figure: an operator's result must be in range, and a derivation counts its statements (a repeat counts
+-- once however often it is unrolled: the figure's premise for `repeat n` is the same statement). What document 01 has and the
+-- figure has not: skip, which document 000 has; the test for equal numbers; signed numbers, and so a count below 0, which runs
+-- nothing.
 -- Assumes nothing.
 use mathlib.Core.Path.{_≡_}
 use mathlib.Core.Bool.{true}

@@ -39,8 +39,11 @@ evaluate (operation n o a b) store = do
 -- ---- entries
 
 -- "Every entry opens with node number, size in words with all its parts, steps with all its parts."
+abbrev pub opening : ℕ
+opening = 3
+
 unfoldable pub entry : ℕ → ℕ → List ℤ → List ℤ
-entry node steps parts = pos node ∷ pos (3 + length parts) ∷ pos steps ∷ parts
+entry node steps parts = pos node ∷ pos (opening + length parts) ∷ pos steps ∷ parts
 
 -- what a statement, or a part of one, ends with: the store, the steps that it took, and its words
 pub record Done : Type 0 where
@@ -112,7 +115,14 @@ run (repeat n e s) fuel store = enter n fuel λ left. do
 
 -- ---- the whole record
 
--- "Header: length L, fuel limit, steps, inputs, outputs; then the root's entry."
+-- "fuel limit outside 1..1,000,000" is refused; no entry has more steps
+unfoldable pub mostSteps : ℤ
+mostSteps = pos 1_000_000
+
+-- "Header: length L, fuel limit, steps, V inputs, V outputs; then the root's entry."
+abbrev pub headed : ℕ
+headed = 3
+
 unfoldable pub recordOf : ℕ → ℕ → List ℤ → List ℤ → List ℤ → List ℤ
 recordOf limit steps inputs outputs root =
-    let body = inputs ++ (outputs ++ root) in pos (3 + length body) ∷ pos limit ∷ pos steps ∷ body
+    let body = inputs ++ (outputs ++ root) in pos (headed + length body) ∷ pos limit ∷ pos steps ∷ body

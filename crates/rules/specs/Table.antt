@@ -11,7 +11,7 @@ use lib.ListN.{length, getD, take, drop, getElem?}
 use lib.Dec.{leb, ltb, eqb}
 use lib.IntN.{ℤ, pos, subℕ}
 use Rattle.rules.specs.Outcome.{Refusal, Outcome, accepted, refused, _>>=_, need, choose, headerWrong, typeWrong, nodeWrong, useWrong, tooDeep}
-use Rattle.rules.specs.Value.{Ty, most}
+use Rattle.rules.specs.Value.{Ty, mostVariables, typeOf}
 use Rattle.rules.specs.Tree.{Operator, Expression, Statement, gives, depth}
 
 -- ---- bytes, little-endian
@@ -45,19 +45,22 @@ variables bytes = u16 bytes 4
 unfoldable pub nodes : List ℕ → ℕ
 nodes bytes = u16 bytes 6
 
--- where the nodes begin, and where they end
+-- where the nodes begin and where they end, eight bytes each
 unfoldable pub nodesAt : List ℕ → ℕ
 nodesAt bytes = headerLength + variables bytes
 
+abbrev pub nodeLength : ℕ
+nodeLength = 8
+
 unfoldable pub total : List ℕ → ℕ
-total bytes = nodesAt bytes + 8 * nodes bytes
+total bytes = nodesAt bytes + nodeLength * nodes bytes
 
 unfoldable pub checkHeader : List ℕ → Outcome (Unit {0})
 checkHeader bytes = do
   _ ← need (leb headerLength (length bytes)) headerWrong
   _ ← need (marked bytes) headerWrong
   _ ← need (leb 1 (variables bytes)) headerWrong
-  _ ← need (leb (variables bytes) most) headerWrong
+  _ ← need (leb (variables bytes) mostVariables) headerWrong
   _ ← need (leb 1 (nodes bytes)) headerWrong
   _ ← need (leb (nodes bytes) mostNodes) headerWrong
   _ ← need (eqb (u16 bytes 8) headerLength) headerWrong
@@ -103,7 +106,7 @@ constantOf n = signed (n .b + 65536 * n .c)
 
 unfoldable pub nodesFrom : ℕ → List ℕ → List Node
 nodesFrom zero bytes = []
-nodesFrom (suc n) bytes = readNode bytes ∷ nodesFrom n (drop 8 bytes)
+nodesFrom (suc n) bytes = readNode bytes ∷ nodesFrom n (drop nodeLength bytes)
 
 unfoldable pub nodesOf : List ℕ → List Node
 nodesOf bytes = nodesFrom (nodes bytes) (drop (nodesAt bytes) bytes)
@@ -180,7 +183,7 @@ make types parts self n variable = do
   _ ← unused (n .a)
   _ ← unused (n .b)
   _ ← unused (n .c)
-  accepted (expression (getD types (n .tag) Ty.number) (Expression.variable self (n .tag)))
+  accepted (expression (typeOf types (n .tag)) (Expression.variable self (n .tag)))
 make types parts self n (operator o) = do
   _ ← unused (n .tag)
   l ← asExpression Ty.number (getElem? parts (n .a))
@@ -195,7 +198,7 @@ make types parts self n skip = do
   accepted (statement (Statement.skip self))
 make types parts self n assign = do
   _ ← need (ltb (n .tag) (length types)) nodeWrong
-  e ← asExpression (getD types (n .tag) Ty.number) (getElem? parts (n .a))
+  e ← asExpression (typeOf types (n .tag)) (getElem? parts (n .a))
   _ ← unused (n .b)
   _ ← unused (n .c)
   accepted (statement (Statement.assign self (n .tag) e))

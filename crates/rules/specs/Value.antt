@@ -1,6 +1,7 @@
 -- "Values and changes": a number is a 32-bit signed value, a truth is 0 or 1; a number's change is a signed difference,
 -- a truth's change is 0 (keep) or 1 (flip). Zero is the only "no change".
--- Stores and change lists are lists of 32 words, zero from the table's variable count on.
+-- A store or change list is 32 words, zero from the table's variable count on (`padded`); as it is handed in, and in a record's
+-- header, it is a list of one word for each variable of the table.
 -- Assumes nothing.
 use Prim.Native.Nat.{ℕ, zero, suc, _-_}
 use mathlib.Core.Bool.{Bool, true, false, not, _&&_}
@@ -45,9 +46,9 @@ minus truth new old = differ new old
 
 -- ---- stores and change lists
 
--- how many variables there may be
-unfoldable pub most : ℕ
-most = 32
+-- "variables V (1..32)"
+unfoldable pub mostVariables : ℕ
+mostVariables = 32
 
 -- a list's word for one variable
 abbrev pub at : List ℤ → ℕ → ℤ
@@ -61,7 +62,7 @@ zeros n = replicate n (pos 0)
 
 -- the words of the table's variables, then zeros for the rest of the 32
 unfoldable pub padded : List ℤ → List ℤ
-padded words = words ++ zeros (most - length words)
+padded words = words ++ zeros (mostVariables - length words)
 
 -- one word for each variable, each in its type
 unfoldable pub fit : List Ty → List ℤ → Bool
@@ -70,7 +71,7 @@ fit [] (z ∷ zs) = false
 fit (t ∷ ts) [] = false
 fit (t ∷ ts) (z ∷ zs) = inType t z && fit ts zs
 
--- every word moved by its change
+-- every word moved by its change; the three lists are equally long
 unfoldable pub plusAll : List Ty → List ℤ → List ℤ → List ℤ
 plusAll [] olds changes = []
 plusAll (t ∷ ts) [] changes = []
@@ -83,13 +84,13 @@ plusAll (t ∷ ts) (z ∷ zs) (c ∷ cs) = plus t z c ∷ plusAll ts zs cs
 unfoldable pub snapshot : List ℕ → List ℤ → List ℤ
 snapshot vs store = map (at store) vs
 
--- the words with each listed variable's word set anew
+-- the words with each listed variable's word set anew; the two lists are equally long
 unfoldable pub put : List ℕ → List ℤ → List ℤ → List ℤ
 put [] news words = words
 put (v ∷ vs) [] words = words
 put (v ∷ vs) (z ∷ zs) words = put vs zs (set words v z)
 
--- each listed variable's new value minus its old one
+-- each listed variable's new value minus its old one; the three lists are equally long
 unfoldable pub minusAll : List Ty → List ℕ → List ℤ → List ℤ → List ℤ
 minusAll types [] news olds = []
 minusAll types (v ∷ vs) [] olds = []

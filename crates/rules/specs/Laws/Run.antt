@@ -27,8 +27,10 @@ unfolding evaluate reads
 evaluate-agree (constant n z) store other h = refl
 evaluate-agree (variable n v) store other h = rw (h .on v (List·Memᴰ·head refl))
 evaluate-agree (operation n o a b) store other h =
-    rw (evaluate-agree a store other (agree-part (union-left (reads a) (reads b)) h),
-      evaluate-agree b store other (agree-part (union-right (reads a) (reads b)) h)) refl
+    rw (
+      evaluate-agree a store other (agree-part (union-left (reads a) (reads b)) h),
+      evaluate-agree b store other (agree-part (union-right (reads a) (reads b)) h),
+    ) refl
 
 -- two ends of one run from stores that agree
 pub record Same (vs : List ℕ) (d f : Done) : Type 0 where
@@ -55,7 +57,8 @@ module _ (vs : List ℕ) where
       values (record {
         steps = ap suc (q .steps);
         words = ap₂ {C = List ℤ} (λ k ws. entry node (suc k) ws) (q .steps) (q .words);
-        agree = q .agree })
+        agree = q .agree;
+      })
 
   -- one after the other: the second gets the steps that the first left
   goes-then : (second : ℕ → List ℤ → Outcome Done) → Goes second → (left : ℕ) (d f : Done) → Same vs d f
@@ -70,12 +73,13 @@ module _ (vs : List ℕ) where
   goes-iterate body ws sub h (suc n) left store other agree =
       alike-bind (body left store) (body left other) _ _ (h left store other agree) λ d f q.
       alike-bind (iterate body ws n (left - d .steps) (d .store)) (iterate body ws n (left - f .steps) (f .store)) _ _
-        (goes-then (iterate body ws n) (goes-iterate body ws sub h n) left d f q) λ r t p.
+      (goes-then (iterate body ws n) (goes-iterate body ws sub h n) left d f q) λ r t p.
       values (record {
         steps = ap₂ {C = ℕ} (λ i j. i + j) (q .steps) (p .steps);
         words = ap₂ {C = List ℤ} (λ a b. a ++ b) (q .words)
             (ap₂ {C = List ℤ} (λ a b. a ++ b) (snapshot-agree ws (d .store) (f .store) (agree-part sub (q .agree))) (p .words));
-        agree = p .agree })
+        agree = p .agree;
+      })
 
   goes-choose : (b : Bool) (one two : ℕ → List ℤ → Outcome Done) → Goes one → Goes two → Goes (choose b one two)
   goes-choose true one two h k = h
@@ -88,43 +92,46 @@ module _ (vs : List ℕ) where
   run-alike (assign n v e) sub fuel store other agree =
       rw (evaluate-agree e store other (agree-part (λ u m. sub u (assign-expression n e (skip n) v u m)) agree))
       (goes-enter n _ _ (λ left. alike-after (evaluate e other) _ _ λ x.
-        values (record { steps = refl; words = refl; agree = agree-set v (x .value) agree })) fuel)
+      values (record { steps = refl; words = refl; agree = agree-set v (x .value) agree })) fuel)
   run-alike (sequence n s t) sub fuel store other agree =
       goes-enter n _ _ (λ left.
-        alike-bind (run s left store) (run s left other) _ _
-          (run-alike s (λ v m. sub v (sequence-first n s t v m)) left store other agree) λ d f q.
-        alike-bind (run t (left - d .steps) (d .store)) (run t (left - f .steps) (f .store)) _ _
-          (goes-then (run t) (run-alike t (λ v m. sub v (sequence-second n s t v m))) left d f q) λ g h p.
-        values (record {
-          steps = ap₂ {C = ℕ} (λ i j. i + j) (q .steps) (p .steps);
-          words = ap₂ {C = List ℤ} (λ a b. a ++ b) (q .words) (p .words);
-          agree = p .agree })) fuel
+      alike-bind (run s left store) (run s left other) _ _
+      (run-alike s (λ v m. sub v (sequence-first n s t v m)) left store other agree) λ d f q.
+      alike-bind (run t (left - d .steps) (d .store)) (run t (left - f .steps) (f .store)) _ _
+      (goes-then (run t) (run-alike t (λ v m. sub v (sequence-second n s t v m))) left d f q) λ g h p.
+      values (record {
+        steps = ap₂ {C = ℕ} (λ i j. i + j) (q .steps) (p .steps);
+        words = ap₂ {C = List ℤ} (λ a b. a ++ b) (q .words) (p .words);
+        agree = p .agree;
+      })) fuel
   run-alike (if n e s t) sub fuel store other agree =
       rw (evaluate-agree e store other (agree-part (λ u m. sub u (if-condition n e s t u m)) agree))
       (goes-enter n _ _ (λ left. alike-after (evaluate e other) _ _ λ x.
-        alike-bind (choose (holds (x .value)) (run s) (run t) left store) (choose (holds (x .value)) (run s) (run t) left other) _ _
-          (goes-choose (holds (x .value)) (run s) (run t)
-            (run-alike s (λ v m. sub v (if-then n e s t v m)))
-            (run-alike t (λ v m. sub v (if-else n e s t v m))) left store other agree) λ d f q.
-        values (record {
-          steps = q .steps;
-          words = if-same (x .value) (x .words)
-              (snapshot-agree (mentions (if n e s t)) store other (agree-part sub agree))
-              (snapshot-agree (mentions (if n e s t)) (d .store) (f .store) (agree-part sub (q .agree)))
-              (q .words);
-          agree = q .agree })) fuel)
+      alike-bind (choose (holds (x .value)) (run s) (run t) left store) (choose (holds (x .value)) (run s) (run t) left other) _ _
+      (goes-choose (holds (x .value)) (run s) (run t)
+      (run-alike s (λ v m. sub v (if-then n e s t v m)))
+      (run-alike t (λ v m. sub v (if-else n e s t v m))) left store other agree) λ d f q.
+      values (record {
+        steps = q .steps;
+        words = if-same (x .value) (x .words)
+            (snapshot-agree (mentions (if n e s t)) store other (agree-part sub agree))
+            (snapshot-agree (mentions (if n e s t)) (d .store) (f .store) (agree-part sub (q .agree)))
+            (q .words);
+        agree = q .agree;
+      })) fuel)
   run-alike (repeat n e s) sub fuel store other agree =
       rw (evaluate-agree e store other (agree-part (λ u m. sub u (repeat-count n e s u m)) agree))
       (goes-enter n _ _ (λ left. alike-after (evaluate e other) _ _ λ x.
-        alike-bind (iterate (run s) (mentions (repeat n e s)) (times (x .value)) left store)
-          (iterate (run s) (mentions (repeat n e s)) (times (x .value)) left other) _ _
-          (goes-iterate (run s) (mentions (repeat n e s)) sub
-            (run-alike s (λ v m. sub v (repeat-body n e s v m))) (times (x .value)) left store other agree) λ d f q.
-        values (record {
-          steps = q .steps;
-          words = repeat-same (x .value) (x .words)
-              (snapshot-agree (mentions (repeat n e s)) store other (agree-part sub agree)) (q .words);
-          agree = q .agree })) fuel)
+      alike-bind (iterate (run s) (mentions (repeat n e s)) (times (x .value)) left store)
+      (iterate (run s) (mentions (repeat n e s)) (times (x .value)) left other) _ _
+      (goes-iterate (run s) (mentions (repeat n e s)) sub
+      (run-alike s (λ v m. sub v (repeat-body n e s v m))) (times (x .value)) left store other agree) λ d f q.
+      values (record {
+        steps = q .steps;
+        words = repeat-same (x .value) (x .words)
+            (snapshot-agree (mentions (repeat n e s)) store other (agree-part sub agree)) (q .words);
+        agree = q .agree;
+      })) fuel)
 
 -- ---- fuel
 
@@ -139,7 +146,7 @@ abbrev pub Fuelled : (ℕ → Outcome Done) → Type 0
 Fuelled g = (fuel : ℕ) → Holds (Costs g) (g fuel)
 
 -- one order or the other
-split : {X : Type 0} (a b : ℕ) → (a ≤ b → X) → (b < a → X) → X
+pub split : {X : Type 0} (a b : ℕ) → (a ≤ b → X) → (b < a → X) → X
 split a b f g = elim (decLe a b) [ yes h ↦ f h | no h ↦ g (lt-of-not-le h) ]
 
 fuelled-enter : (node : ℕ) (inside : ℕ → Outcome Done) → Fuelled inside → Fuelled (λ k. enter node k inside)
@@ -150,9 +157,11 @@ fuelled-enter node inside h (suc left) = holds-bind (inside left) _ (h left) λ 
   where
     closed : Done → Done
     closed d = record { store = d .store; steps = suc (d .steps); words = entry node (suc (d .steps)) (d .words) }
+
     enough : (d : Done) → Costs inside d → (k : ℕ) → suc (d .steps) ≤ k → enter node k inside ≡ accepted (closed d)
     enough d c zero le = absurd (omega arith)
     enough d c (suc k) le = rw (c .enough k (omega arith))
+
     short : (d : Done) → Costs inside d → (k : ℕ) → k < suc (d .steps) → enter node k inside ≡ refused fuelSpent
     short d c zero lt = refl
     short d c (suc k) lt = rw (c .short k (omega arith))
@@ -161,8 +170,9 @@ fuelled-enter node inside h (suc left) = holds-bind (inside left) _ (h left) λ 
 fuelled-map : (g : ℕ → Outcome Done) (made : Done → Done) → ((d : Done) → made d .steps ≡ d .steps) → Fuelled g
     → Fuelled (λ k. g k >>= λ d. accepted (made d))
 fuelled-map g made same h fuel = holds-bind (g fuel) _ (h fuel) λ d c. value (record {
-    enough = λ k le. rw (c .enough k (omega (arith, same d))) refl;
-    short = λ k lt. rw (c .short k (omega (arith, same d))) refl })
+  enough = λ k le. rw (c .enough k (omega (arith, same d))) refl;
+  short = λ k lt. rw (c .short k (omega (arith, same d))) refl;
+})
 
 -- what needs no fuel first
 fuelled-after : {A : Type 0} (m : Outcome A) (g : A → ℕ → Outcome Done) → ((a : A) → Fuelled (g a)) → Fuelled (λ k. m >>= λ a. g a k)
@@ -179,8 +189,10 @@ fuelled-then g second joined sum h h₂ fuel =
   where
     both : ℕ → Outcome Done
     both k = g k >>= λ d. second d (k - d .steps) >>= λ f. accepted (joined d f)
+
     enough : (d : Done) → Costs g d → (f : Done) → Costs (second d) f → (k : ℕ) → joined d f .steps ≤ k → both k ≡ accepted (joined d f)
     enough d c f e k le = rw (c .enough k (omega (arith, sum d f)), e .enough (k - d .steps) (omega (arith, sum d f))) refl
+
     short : (d : Done) → Costs g d → (f : Done) → Costs (second d) f → (k : ℕ) → k < joined d f .steps → both k ≡ refused fuelSpent
     short d c f e k lt = split (d .steps) k
         (λ le. rw (c .enough k le, e .short (k - d .steps) (omega (arith, sum d f))) refl)
@@ -209,9 +221,9 @@ run-costs (sequence n s t) store fuel = fuelled-enter n _
     (fuelled-then (λ k. run s k store) (λ d k. run t k (d .store)) _ (λ d f. refl) (run-costs s store) (λ d. run-costs t (d .store))) fuel
 run-costs (if n e s t) store fuel = fuelled-enter n _
     (fuelled-after (evaluate e store) _ λ x.
-      fuelled-map (λ k. choose (holds (x .value)) (run s) (run t) k store) _ (λ d. refl)
-      (fuelled-choose (holds (x .value)) (run s) (run t) store (run-costs s store) (run-costs t store))) fuel
+    fuelled-map (λ k. choose (holds (x .value)) (run s) (run t) k store) _ (λ d. refl)
+    (fuelled-choose (holds (x .value)) (run s) (run t) store (run-costs s store) (run-costs t store))) fuel
 run-costs (repeat n e s) store fuel = fuelled-enter n _
     (fuelled-after (evaluate e store) _ λ x.
-      fuelled-map (λ k. iterate (run s) (mentions (repeat n e s)) (times (x .value)) k store) _ (λ d. refl)
-      (fuelled-iterate (run s) (mentions (repeat n e s)) (run-costs s) (times (x .value)) store)) fuel
+    fuelled-map (λ k. iterate (run s) (mentions (repeat n e s)) (times (x .value)) k store) _ (λ d. refl)
+    (fuelled-iterate (run s) (mentions (repeat n e s)) (run-costs s) (times (x .value)) store)) fuel

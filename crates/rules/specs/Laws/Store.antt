@@ -54,7 +54,8 @@ set-alike (s ∷ ss) (o ∷ os) e (suc v) z (suc w) h = set-alike ss os (suc-inj
 pub agree-set : {vs : List ℕ} {store other : List ℤ} (v : ℕ) (z : ℤ) → Agree vs store other → Agree vs (set store v z) (set other v z)
 agree-set {store} {other} v z h = record {
   long = length-set store v z ∙ h .long ∙ sym (length-set other v z);
-  on = λ w m. set-alike store other (h .long) v z w (h .on w m) }
+  on = λ w m. set-alike store other (h .long) v z w (h .on w m);
+}
 
 -- ---- the difference of two stores
 
@@ -129,7 +130,7 @@ unchanged-on : (types : List Ty) (vs : List ℕ) (new old : List ℤ) → length
 unfolding unchanged
 unchanged-on types (w ∷ vs) new old e go gn h v (List·Memᴰ·head q) =
     rw q (unmoved (typeOf types w) (at old w) (at new w) (go w) (gn w)
-      (sym (at-difference types new old e w) ∙ eqZ-true _ _ (and-left (eqZ (at (difference types new old) w) (pos 0)) _ h)))
+    (sym (at-difference types new old e w) ∙ eqZ-true _ _ (and-left (eqZ (at (difference types new old) w) (pos 0)) _ h)))
 unchanged-on types (w ∷ vs) new old e go gn h v (List·Memᴰ·tail m) =
     unchanged-on types vs new old e go gn (and-right (eqZ (at (difference types new old) w) (pos 0)) _ h) v m
 

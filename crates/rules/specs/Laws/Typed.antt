@@ -65,7 +65,7 @@ at-set (y ∷ ys) (suc v) z zero = inl refl
 at-set (y ∷ ys) (suc v) z (suc w) = further (at-set ys v z w)
   where
     further : (at (set ys v z) w ≡ at ys w) ⊎ ((w ≡ v) × (at (set ys v z) w ≡ z))
-      → (at (set ys v z) w ≡ at ys w) ⊎ ((suc w ≡ suc v) × (at (set ys v z) w ≡ z))
+        → (at (set ys v z) w ≡ at ys w) ⊎ ((suc w ≡ suc v) × (at (set ys v z) w ≡ z))
     further (inl e) = inl e
     further (inr e) = inr (ap suc (e .0), e .1)
 
@@ -80,7 +80,8 @@ module _ (types : List Ty) (vs : List ℕ) where
   kept-set store v z good m h = record {
     long = length-set store v z;
     outside = λ w n. getD-set-other store v w z (pos 0) (λ e. n (subst (λ u. u ∈ vs) (sym e) m));
-    good = λ w. still w (at-set store v z w) }
+    good = λ w. still w (at-set store v z w);
+  }
     where
       still : (w : ℕ) → (at (set store v z) w ≡ at store w) ⊎ ((w ≡ v) × (at (set store v z) w ≡ z)) → inType (typeOf types w) (at (set store v z) w) ≡ true
       still w (inl e) = rw e (good w)
@@ -114,25 +115,25 @@ module _ (types : List Ty) (vs : List ℕ) where
   run-keeps (skip n) typed sub fuel store good = keeps-enter n store _ (λ left. value (kept-self store good)) fuel
   run-keeps (assign n v e) typed sub fuel store good = keeps-enter n store _
       (λ left. holds-bind (evaluate e store) _ (value-typed types store good (typeOf types v) e typed) λ x h.
-        value (kept-set store v (x .value) good (sub v (assign-variable n e (skip n) v)) h)) fuel
+      value (kept-set store v (x .value) good (sub v (assign-variable n e (skip n) v)) h)) fuel
   run-keeps (sequence n s t) typed sub fuel store good = keeps-enter n store _
       (λ left.
-        holds-bind (run s left store) _ (run-keeps s (typed .0) (λ v m. sub v (sequence-first n s t v m)) left store good) λ d k.
-        holds-bind (run t (left - d .steps) (d .store)) _
-          (run-keeps t (typed .1) (λ v m. sub v (sequence-second n s t v m)) (left - d .steps) (d .store) (k .good)) λ f l.
-        value (kept-then k l)) fuel
+      holds-bind (run s left store) _ (run-keeps s (typed .0) (λ v m. sub v (sequence-first n s t v m)) left store good) λ d k.
+      holds-bind (run t (left - d .steps) (d .store)) _
+      (run-keeps t (typed .1) (λ v m. sub v (sequence-second n s t v m)) (left - d .steps) (d .store) (k .good)) λ f l.
+      value (kept-then k l)) fuel
   run-keeps (if n e s t) typed sub fuel store good = keeps-enter n store _
       (λ left.
-        holds-bind (evaluate e store) _ (value-typed types store good Ty.truth e (typed .0)) λ x h.
-        holds-bind (choose (holds (x .value)) (run s) (run t) left store) _
-          (keeps-choose (holds (x .value)) (run s) (run t)
-            (run-keeps s (typed .1) (λ v m. sub v (if-then n e s t v m)))
-            (run-keeps t (typed .2) (λ v m. sub v (if-else n e s t v m))) left store good) λ d k.
-        value k) fuel
+      holds-bind (evaluate e store) _ (value-typed types store good Ty.truth e (typed .0)) λ x h.
+      holds-bind (choose (holds (x .value)) (run s) (run t) left store) _
+      (keeps-choose (holds (x .value)) (run s) (run t)
+      (run-keeps s (typed .1) (λ v m. sub v (if-then n e s t v m)))
+      (run-keeps t (typed .2) (λ v m. sub v (if-else n e s t v m))) left store good) λ d k.
+      value k) fuel
   run-keeps (repeat n e s) typed sub fuel store good = keeps-enter n store _
       (λ left.
-        holds-bind (evaluate e store) _ (value-typed types store good Ty.number e (typed .0)) λ x h.
-        holds-bind (iterate (run s) (mentions (repeat n e s)) (times (x .value)) left store) _
-          (keeps-iterate (run s) (mentions (repeat n e s))
-            (run-keeps s (typed .1) (λ v m. sub v (repeat-body n e s v m))) (times (x .value)) left store good) λ d k.
-        value k) fuel
+      holds-bind (evaluate e store) _ (value-typed types store good Ty.number e (typed .0)) λ x h.
+      holds-bind (iterate (run s) (mentions (repeat n e s)) (times (x .value)) left store) _
+      (keeps-iterate (run s) (mentions (repeat n e s))
+      (run-keeps s (typed .1) (λ v m. sub v (repeat-body n e s v m))) (times (x .value)) left store good) λ d k.
+      value k) fuel
