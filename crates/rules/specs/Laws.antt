@@ -6,3 +6,5 @@ pub mod Typed
 pub mod Run
 pub mod Shift
 pub mod Entry
+pub mod Branch
+pub mod Loop

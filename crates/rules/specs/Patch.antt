@@ -5,7 +5,7 @@
 -- and `walk` goes through the parts by the statement's kind.
 -- Every refusal is `broken` (12) but two: an operator's new result (8), and fuel (9).
 -- Assumes nothing.
-use Prim.Native.Nat.{ℕ, zero, suc, _+_, _-_, min, compare, Ordering, Ordering·lt, Ordering·eq, Ordering·gt}
+use Prim.Native.Nat.{ℕ, zero, suc, _+_, _-_}
 use mathlib.Core.Bool.{Bool, true, false}
 use mathlib.Core.List.{List, [], _∷_, _++_}
 use lib.ListN.{length, set, drop}
@@ -210,12 +210,6 @@ pub record Turn : Type 0 where
   pub new : List ℤ
   pub rest : List ℤ
 
--- where some iterations lead, with their counts and new words
-pub record Turned : Type 0 where
-  pub turn : Turn
-  pub counts : Counts
-  pub words : List ℤ
-
 module _ (types : List Ty) where
   unfoldable pub readSnapshot : List ℕ → List ℤ → Outcome Snapshot
   readSnapshot [] ws = accepted (record { values = []; rest = ws })
@@ -258,14 +252,49 @@ module _ (types : List Ty) where
               ifWords (plus Ty.truth (f .condition) (f .test .change)) (f .before) after (f .test .words) (d .words);
         })
 
-  -- the iterations that stay: each patches the body, and its snapshot takes the changes
-  unfoldable pub turns : (ℕ → List ℤ → List ℤ → Outcome Visited) → List ℕ → ℕ → Turn → Outcome Turned
-  turns body vs zero t = accepted (record { turn = t; counts = noSteps; words = [] })
-  turns body vs (suc n) t = do
+  -- "Of a dropped tail only the last snapshot is read: it is the entry's last words and must lie behind the walked parts."
+  unfoldable pub lastSnapshot : List ℕ → List ℤ → Outcome Snapshot
+  lastSnapshot vs ws = do
+    _ ← need (leb (length vs) (length ws)) broken
+    readSnapshot vs (drop (length ws - length vs) ws)
+
+  -- no iteration is left on either side
+  unfoldable pub complete : Turn → Outcome Walked
+  complete t = do
+    _ ← finished (t .rest)
+    accepted (record { changes = t .changes; counts = noSteps; words = [] })
+
+  -- "If k′ > k the rest run fresh from the last old snapshot plus changes", and "each mentioned variable's change is new value
+  -- minus old last snapshot"
+  unfoldable pub grown : (ℕ → List ℤ → Outcome Done) → List ℕ → Turn → Outcome Walked
+  grown more vs t = do
+    _ ← finished (t .rest)
+    d ← more (t .left) (put vs (t .new) (zeros mostVariables))
+    accepted
+        (record {
+          changes = put vs (minusAll types vs (snapshot vs (d .store)) (t .old)) (t .changes);
+          counts = allFresh (d .steps);
+          words = d .words;
+        })
+
+  -- the iterations that are left are dropped: again "new value minus old last snapshot"
+  unfoldable pub shrunk : List ℕ → Turn → Outcome Walked
+  shrunk vs t = do
+    tail ← lastSnapshot vs (t .rest)
+    accepted
+        (record { changes = put vs (minusAll types vs (t .new) (tail .values)) (t .changes); counts = noSteps; words = [] })
+
+  -- "Repeat with old iterations k and new k′: the first min(k, k′) are patched": `body` visits the body, `fresh` runs it; each
+  -- kept snapshot takes its changes
+  unfoldable pub loop : (ℕ → List ℤ → List ℤ → Outcome Visited) → (ℕ → List ℤ → Outcome Done) → List ℕ → ℕ → ℕ → Turn → Outcome Walked
+  loop body fresh vs zero zero t = complete t
+  loop body fresh vs zero (suc more) t = grown (iterate fresh vs (suc more)) vs t
+  loop body fresh vs (suc dropped) zero t = shrunk vs t
+  loop body fresh vs (suc k) (suc k′) t = do
     b ← body (t .left) (t .changes) (t .rest)
     old ← readSnapshot vs (b .rest)
     new ← movedAll vs (old .values) (b .changes)
-    r ← turns body vs n
+    w ← loop body fresh vs k k′
         (record {
           left = t .left - stepsOf (b .counts);
           changes = b .changes;
@@ -273,44 +302,7 @@ module _ (types : List Ty) where
           new = new;
           rest = old .rest;
         })
-    accepted
-        (record { turn = r .turn; counts = both (b .counts) (r .counts); words = b .words ++ (new ++ r .words) })
-
-  -- "Of a dropped tail only the last snapshot is read: it is the entry's last words and must lie behind the walked parts."
-  unfoldable pub lastSnapshot : List ℕ → List ℤ → Outcome Snapshot
-  lastSnapshot vs ws = do
-    _ ← need (leb (length vs) (length ws)) broken
-    readSnapshot vs (drop (length ws - length vs) ws)
-
-  -- the iterations that stay are done; k old ones and k′ new ones compare so
-  unfoldable pub close : Ordering → (ℕ → List ℤ → Outcome Done) → List ℕ → Turned → Outcome Walked
-  close Ordering·eq more vs u = do
-    _ ← finished (u .turn .rest)
-    accepted (record { changes = u .turn .changes; counts = u .counts; words = u .words })
-  close Ordering·lt more vs u = do
-    _ ← finished (u .turn .rest)
-    d ← more (u .turn .left) (put vs (u .turn .new) (zeros mostVariables))
-    accepted
-        (record {
-          changes = put vs (minusAll types vs (snapshot vs (d .store)) (u .turn .old)) (u .turn .changes);
-          counts = both (u .counts) (allFresh (d .steps));
-          words = u .words ++ d .words;
-        })
-  close Ordering·gt more vs u = do
-    tail ← lastSnapshot vs (u .turn .rest)
-    accepted
-        (record {
-          changes = put vs (minusAll types vs (u .turn .new) (tail .values)) (u .turn .changes);
-          counts = u .counts;
-          words = u .words;
-        })
-
-  -- "Repeat with old iterations k and new k′: the first min(k, k′) are patched. If k′ > k the rest run fresh. If k′ differs from
-  -- k, each mentioned variable's change is new value minus old last snapshot."
-  unfoldable pub loop : Statement → (ℕ → List ℤ → List ℤ → Outcome Visited) → List ℕ → ℕ → ℕ → Turn → Outcome Walked
-  loop s body vs k k′ t = do
-    u ← turns body vs (min k k′) t
-    close (compare k k′) (iterate (run s) vs (k′ - k)) vs u
+    accepted (record { changes = w .changes; counts = both (b .counts) (w .counts); words = b .words ++ (new ++ w .words) })
 
   unfoldable pub walk : Statement → Walk
   walk (skip n) left changes ws = do
@@ -349,7 +341,7 @@ module _ (types : List Ty) where
         before ← movedAll vs (b .values) changes
         x ← shift e changes (b .rest)
         count ← moved Ty.number (old .word) (x .change)
-        w ← loop s (visit s (walk s) false) vs (times (old .word)) (times count)
+        w ← loop (visit s (walk s) false) (run s) vs (times (old .word)) (times count)
             (record { left = left; changes = changes; old = b .values; new = before; rest = x .rest })
         accepted
             (record {

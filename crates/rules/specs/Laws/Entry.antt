@@ -141,7 +141,6 @@ same-difference types vs {new} {old} {new′} {old′} agree agree′ k l =
 module _ (types : List Ty) (s : Statement) (typed : Typed types s) (old : List ℤ) (good : Good types old)
     (fuel₀ : ℕ) (d : Done) (was : run s fuel₀ old ≡ accepted d) (new : List ℤ) (good′ : Good types new)
     (agree : Agree (mentions s) new old) where
-
   -- the run from the new store, beside the old end
   beside : (fuel : ℕ) → Alike (Same (mentions s)) (run s fuel new) (run s fuel old)
   beside fuel = run-alike (mentions s) s (λ v m. m) fuel new old agree
@@ -156,11 +155,12 @@ module _ (types : List Ty) (s : Statement) (typed : Typed types s) (old : List �
     counts = allReused (d .steps);
     total = omega (arith, q .steps);
     closed = ap₂ {C = Visited} (λ c w. record { changes = c; counts = allReused (d .steps); words = w; rest = rest })
-        (sym (same-difference types (mentions s) agree (q .agree) k (holds-of (rw was at (keeps old good fuel₀))))) (sym (q .words)) }
+        (sym (same-difference types (mentions s) agree (q .agree) k (holds-of (rw was at (keeps old good fuel₀))))) (sym (q .words));
+  }
 
   reused-end : (rest : List ℤ) (m : Outcome Done) → Alike (Same (mentions s)) m (accepted d) → Holds (λ e. Kept types (mentions s) new (e .store)) m
       → Alike (Step types d rest) m
-        (accepted (record { changes = difference types new old; counts = allReused (d .steps); words = d .words; rest = rest }))
+      (accepted (record { changes = difference types new old; counts = allReused (d .steps); words = d .words; rest = rest }))
   reused-end rest m (values {a = e} q) (value k) = values (reused-step rest e q k)
 
   refused-end : (rest : List ℤ) (m : Outcome Done) → Alike (Same (mentions s)) m (refused fuelSpent) → Alike (Step types d rest) m (refused fuelSpent)
@@ -170,9 +170,9 @@ module _ (types : List Ty) (s : Statement) (typed : Typed types s) (old : List �
   unfolding skipped met
   skip-follows rest fuel = split (d .steps) fuel
       (λ le. rw (le-leb (d .steps) fuel le)
-        (reused-end rest (run s fuel new) (rw (costs-of s fuel₀ old d was .enough fuel le) at (beside fuel)) (keeps new good′ fuel)))
+      (reused-end rest (run s fuel new) (rw (costs-of s fuel₀ old d was .enough fuel le) at (beside fuel)) (keeps new good′ fuel)))
       (λ less. rw (lt-leb (d .steps) fuel less)
-        (refused-end rest (run s fuel new) (rw (costs-of s fuel₀ old d was .short fuel less) at (beside fuel))))
+      (refused-end rest (run s fuel new) (rw (costs-of s fuel₀ old d was .short fuel less) at (beside fuel))))
 
 -- ---- a visit
 
@@ -199,7 +199,7 @@ module _ (types : List Ty) (s : Statement) where
     chosen : (d : Done) → run s fuel₀ old ≡ accepted d → Walks old d → (new : List ℤ) → Fine types new → (rest : List ℤ) (fuel : ℕ)
         → (b : Bool) → unchanged (mentions s) (difference types new old) ≡ b
         → Alike (Step types d rest) (run s fuel new)
-          (choose b skipped (paid (nodeOf s) (walk types s)) (met d rest) fuel (difference types new old))
+        (choose b skipped (paid (nodeOf s) (walk types s)) (met d rest) fuel (difference types new old))
     unfolding Walks
     chosen d was walks new fine′ rest fuel true e = skip-follows types s typed old (fine .good) fuel₀ d was new (fine′ .good)
         (unchanged-agree types (mentions s) new old (fine′ .long ∙ sym (fine .long)) (fine .good) (fine′ .good) e) rest fuel
@@ -209,6 +209,21 @@ module _ (types : List Ty) (s : Statement) where
     unfolding Visits visit
     visit-follows h = holds-map
         (λ d p new fine′ last rest fuel e.
-          rw (meets d (p .0) (p .1 .0) last rest e)
-          (chosen d (p .0) (p .1 .1) new fine′ rest fuel (unchanged (mentions s) (difference types new old)) refl))
+        rw (meets d (p .0) (p .1 .0) last rest e)
+        (chosen d (p .0) (p .1 .1) new fine′ rest fuel (unchanged (mentions s) (difference types new old)) refl))
         (holds-both (holds-if (run s fuel₀ old) (λ d e. e)) (holds-both (run-opens s fuel₀ old) h))
+
+-- the parts of an entry follow, so the entry does
+pub enter-walks : (types : List Ty) (node : ℕ) (w : Walk) (inside : List ℤ → ℕ → Outcome Done) (old : List ℤ)
+    → ((left₀ : ℕ) → left₀ ≤ 1_000_000 → Holds
+    (λ d. (new : List ℤ) → Fine types new → (left : ℕ) → Alike (Part types d) (inside new left) (w left (difference types new old) (d .words)))
+    (inside old left₀))
+    → (fuel₀ : ℕ) → fuel₀ ≤ 1_000_000 → Holds
+    (λ d. (new : List ℤ) → Fine types new → (rest : List ℤ) (fuel : ℕ)
+    → Alike (Step types d rest) (enter node fuel (inside new)) (paid node w (met d rest) fuel (difference types new old)))
+    (enter node fuel₀ (inside old))
+unfolding enter shut
+enter-walks types node w inside old h zero most = vacant
+enter-walks types node w inside old h (suc left₀) most = holds-bind (inside old left₀) _ (h left₀ (omega arith)) λ d follows.
+    value λ new fine rest fuel.
+    paid-follows types node (difference types new old) d (inside new) w (follows new fine) rest fuel

@@ -40,6 +40,11 @@ pub holds-if : {A : Type 0} {P : A → Type 0} (m : Outcome A) → ((a : A) → 
 holds-if (accepted a) f = value (f a refl)
 holds-if (refused r) f = vacant
 
+-- nothing in particular
+pub holds-any : {A : Type 0} (m : Outcome A) → Holds (λ a. Unit {0}) m
+holds-any (accepted a) = value tt
+holds-any (refused r) = vacant
+
 -- ---- two computations go alike
 
 pub data Alike {A B : Type 0} (R : A → B → Type 0) : Outcome A → Outcome B → Type 0 where
@@ -74,3 +79,9 @@ pub alike-after : {A C D : Type 0} {S : C → D → Type 0} (m : Outcome A) (f :
     → ((a : A) → Alike S (f a) (g a)) → Alike S (m >>= f) (m >>= g)
 alike-after (accepted a) f g step = step a
 alike-after (refused r) f g step = refusals
+
+-- the right side goes on alone
+pub alike-then : {A B D : Type 0} {R : A → B → Type 0} {S : A → D → Type 0} (m : Outcome A) (n : Outcome B) (g : B → Outcome D)
+    → Alike R m n → ((a : A) (b : B) → R a b → Alike S (accepted a) (g b)) → Alike S m (n >>= g)
+alike-then m n g (values h) step = step _ _ h
+alike-then m n g refusals step = refusals

@@ -7,7 +7,7 @@ use Prim.Native.Nat.{ℕ, zero, suc, _+_, _≤_, _<_}
 use mathlib.Core.Bool.{Bool, true, false, _&&_}
 use mathlib.Core.List.{List, [], _∷_, _++_, map, List·Memᴰ·head, List·Memᴰ·tail}
 use native.Mathlib.Omega.{arith}
-use lib.ListN.{length, getD, set, length-set}
+use lib.ListN.{length, getD, set, length-set, length-map}
 use lib.Seq.{ext-getD}
 use lib.IntN.{ℤ, pos}
 use Rattle.numbers.specs.Signed.{eqZ}
@@ -96,6 +96,10 @@ set-difference (t ∷ ts) (n′ ∷ ns) (o′ ∷ os) e (suc v) n o = ap (λ r. 
 
 -- ---- snapshots
 
+pub length-snapshot : (vs : List ℕ) (store : List ℤ) → length (snapshot vs store) ≡ length vs
+unfolding snapshot
+length-snapshot vs store = length-map vs (at store)
+
 pub snapshot-agree : (vs : List ℕ) (store other : List ℤ) → Agree vs store other → snapshot vs store ≡ snapshot vs other
 unfolding snapshot
 snapshot-agree [] store other h = refl
@@ -165,7 +169,7 @@ put-agrees (w ∷ vs) words whole e v (inl (List·Memᴰ·tail m)) =
 put-agrees (w ∷ vs) words whole e v (inr q) =
     put-agrees vs (set words w (at whole w)) whole (length-set words w (at whole w) ∙ e) v (inr (set-agrees words whole e w v (inr q)))
 
-length-put : (vs : List ℕ) (news words : List ℤ) → length (put vs news words) ≡ length words
+pub length-put : (vs : List ℕ) (news words : List ℤ) → length (put vs news words) ≡ length words
 unfolding put
 length-put [] news words = refl
 length-put (v ∷ vs) [] words = refl
