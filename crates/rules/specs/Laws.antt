@@ -8,3 +8,4 @@ pub mod Shift
 pub mod Entry
 pub mod Branch
 pub mod Loop
+pub mod Walk

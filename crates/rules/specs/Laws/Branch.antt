@@ -6,20 +6,22 @@ use mathlib.Core.Path.{_≡_, refl, sym, ap, ap₂, _∙_, subst}
 use mathlib.Core.Logic.{_⊎_, inl, inr}
 use Prim.Native.Nat.{ℕ, zero, suc, _+_, _-_, _≤_, _<_}
 use native.Mathlib.Omega.{arith}
-use mathlib.Core.Bool.{Bool, true, false}
+use mathlib.Core.Bool.{Bool, true, false, not, true≢false}
 use mathlib.Core.List.{List, [], _∷_, _++_}
 use lib.ListN.{length, length-replicate}
 use lib.IntN.{ℤ, pos}
+use Rattle.numbers.specs.Signed.{eqZ}
+use Rattle.numbers.specs.Laws.{eqZ-true}
 use Rattle.rules.specs.Outcome.{Refusal, Outcome, accepted, refused, _>>=_, need, choose}
-use Rattle.rules.specs.Value.{Ty, mostVariables, zeros, inType, plus, minus, typeOf, at, snapshot, put, minusAll}
-use Rattle.rules.specs.Run.{Done, ifWords}
+use Rattle.rules.specs.Value.{Ty, mostVariables, zeros, inType, differ, plus, minus, typeOf, at, snapshot, put, minusAll}
+use Rattle.rules.specs.Run.{Done, holds, ifWords}
 use Rattle.rules.specs.Patch.{Counts, stepsOf, allFresh, Shifted, Walked, Visited, Fork, movedAll, kept, flipped}
 use Rattle.rules.specs.Laws.Outcome.{Holds, Alike, values, alike-bind, alike-with}
-use Rattle.rules.specs.Laws.Value.{plus-minus}
+use Rattle.rules.specs.Laws.Value.{truth-cases, plus-minus, unmoved}
 use Rattle.rules.specs.Laws.Store.{Good, Agree, difference, at-difference, length-difference, snapshot-agree, minus-snapshots, move-on, put-agrees, put-whole, length-put}
 use Rattle.rules.specs.Laws.Mentions.{_∈_}
-use Rattle.rules.specs.Laws.Typed.{Kept, Keeps}
-use Rattle.rules.specs.Laws.Run.{Same, Goes}
+use Rattle.rules.specs.Laws.Typed.{Kept, Keeps, keeps-choose}
+use Rattle.rules.specs.Laws.Run.{Same, Goes, goes-choose}
 use Rattle.rules.specs.Laws.Entry.{Fine, Step, Part}
 
 -- ---- what a fresh part starts from, and the changes behind it
@@ -48,6 +50,20 @@ fresh-changes types vs {new} {old} {new′} {old′} {end} e k l agree =
   where
     long : length new′ ≡ length old′
     long = k .long ∙ e ∙ sym (l .long)
+
+-- ---- which branch
+
+choose-not : {A : Type 0} (b : Bool) (one two : A) → choose (not b) one two ≡ choose b two one
+choose-not true one two = refl
+choose-not false one two = refl
+
+-- two truths that differ choose otherwise
+otherwise : (x y : ℤ) → (x ≡ pos 0) ⊎ (x ≡ pos 1) → (y ≡ pos 0) ⊎ (y ≡ pos 1) → eqZ (minus Ty.truth y x) (pos 0) ≡ false → holds y ≡ not (holds x)
+unfolding minus differ holds
+otherwise x y (inl p) (inl q) e = absurd (true≢false (rw (p, q) at e))
+otherwise x y (inl p) (inr q) e = rw (p, q)
+otherwise x y (inr p) (inl q) e = rw (p, q)
+otherwise x y (inr p) (inr q) e = absurd (true≢false (rw (p, q) at e))
 
 -- ---- the branch of an if
 
@@ -111,3 +127,19 @@ module _ (types : List Ty) (vs : List ℕ) (old new : List ℤ) (fine : Fine typ
       alike-bind (branch left new) (branch left (put vs (snapshot vs new) (zeros mostVariables))) _ _
       (alike-with (keep left new (fine′ .good)) (goes left new (put vs (snapshot vs new) (zeros mostVariables)) (restored types vs new fine′))) λ e f p.
       values (fresh-part words y hy e f (p .0) (p .1))
+
+  -- the one or the other, as the condition's change says
+  pub forked : (words : List ℤ) (y : ℤ) → inType Ty.truth y ≡ true → (one two : ℕ → List ℤ → Outcome Done)
+      → (see look : Bool → ℕ → List ℤ → List ℤ → Outcome Visited)
+      → Keeps types vs one → Keeps types vs two → Goes vs one → Goes vs two
+      → Alike (Step types d []) (choose (holds x) one two left new) (choose (holds x) see look true left (difference types new old) (d .words))
+      → (b : Bool) → eqZ (minus Ty.truth y x) (pos 0) ≡ b
+      → Alike (Part types (ended x (snapshot vs old) test d))
+      (choose (holds y) one two left new >>= λ e. accepted (ended y (snapshot vs new) words e))
+      (choose b (kept types (choose (holds x) see look)) (flipped types (choose (holds x) two one)) (fork y words))
+  forked words y hy one two see look k₁ k₂ g₁ g₂ h true q =
+      rw (unmoved Ty.truth x y hx hy (eqZ-true _ _ q))
+      (kept-follows words (choose (holds x) one two) (choose (holds x) see look) (keeps-choose types vs (holds x) one two k₁ k₂) h)
+  forked words y hy one two see look k₁ k₂ g₁ g₂ h false q =
+      rw (otherwise x y (truth-cases x hx) (truth-cases y hy) q, choose-not (holds x) one two)
+      (flipped-follows words y hy (choose (holds x) two one) (keeps-choose types vs (holds x) two one k₂ k₁) (goes-choose vs (holds x) two one g₂ g₁))

@@ -20,7 +20,7 @@ use Rattle.rules.specs.Value.{Ty, mostVariables, minus, typeOf, at, unch
 use Rattle.rules.specs.Laws.Value.{minus-self}
 use Rattle.rules.specs.Tree.{Statement, skip, assign, sequence, if, repeat, nodeOf, mentions}
 use Rattle.rules.specs.Run.{Done, entry, enter, mostSteps, run}
-use Rattle.rules.specs.Patch.{Cut, cut, Counts, stepsOf, oneWalked, allReused, Entry, ends, meet, Walked, Visited, Walk, skipped, paid, visit, walk}
+use Rattle.rules.specs.Patch.{Cut, cut, Counts, stepsOf, both, oneWalked, allReused, Entry, ends, meet, Walked, Visited, Walk, skipped, paid, visit, walk}
 use Rattle.rules.specs.Laws.Outcome.{Holds, value, vacant, holds-bind, holds-of, holds-map, holds-both, holds-if, Alike, values, refusals, alike-bind}
 use Rattle.rules.specs.Laws.Store.{Good, Agree, difference, at-difference, length-difference, unchanged-agree}
 use Rattle.rules.specs.Laws.Mentions.{_∈_, is-member}
@@ -110,6 +110,11 @@ pub record Part (types : List Ty) (d d′ : Done) (w : Walked) : Type 0 where
 -- the end of an entry whose parts end with d
 unfoldable pub shut : ℕ → Done → Done
 shut node d = record { store = d .store; steps = suc (d .steps); words = entry node (suc (d .steps)) (d .words) }
+
+-- the steps of one part and then another
+pub sum-of-both : (c e : Counts) (m n : ℕ) → stepsOf c ≡ m → stepsOf e ≡ n → stepsOf (both c e) ≡ m + n
+unfolding stepsOf both
+sum-of-both c e m n p q = omega arith
 
 one-more : (c : Counts) (n : ℕ) → stepsOf c ≡ n → stepsOf (oneWalked c) ≡ suc n
 unfolding stepsOf oneWalked

@@ -22,7 +22,7 @@ use Rattle.rules.specs.Laws.Store.{Good, Agree, difference, length-snaps
 use Rattle.rules.specs.Laws.Mentions.{_∈_, _⊆_}
 use Rattle.rules.specs.Laws.Typed.{Kept, Keeps, kept-self, keeps-iterate}
 use Rattle.rules.specs.Laws.Run.{Same, Goes, goes-iterate}
-use Rattle.rules.specs.Laws.Entry.{Fine, Step, Part}
+use Rattle.rules.specs.Laws.Entry.{Fine, Step, Part, sum-of-both}
 use Rattle.rules.specs.Laws.Branch.{restored, fresh-changes}
 
 -- ---- the last snapshot
@@ -38,9 +38,11 @@ iterate-snapped body vs zero left store = holds-bind (body left store) _ (holds-
     value (d .words, ap (λ (ws : List ℤ). d .words ++ ws) (append-nil (snapshot vs (d .store))))
 iterate-snapped body vs (suc n) left store = holds-bind (body left store) _ (holds-any (body left store)) λ d p.
     holds-bind (iterate body vs (suc n) (left - d .steps) (d .store)) _ (iterate-snapped body vs n (left - d .steps) (d .store)) λ r q.
-    value (d .words ++ (snapshot vs (d .store) ++ q .0),
+    value (
+      d .words ++ (snapshot vs (d .store) ++ q .0),
       ap (λ (ws : List ℤ). d .words ++ (snapshot vs (d .store) ++ ws)) (q .1)
-      ∙ sym (append-assoc (d .words) (snapshot vs (d .store) ++ q .0) _ ∙ ap (λ (ws : List ℤ). d .words ++ ws) (append-assoc (snapshot vs (d .store)) (q .0) _)))
+          ∙ sym (append-assoc (d .words) (snapshot vs (d .store) ++ q .0) _ ∙ ap (λ (ws : List ℤ). d .words ++ ws) (append-assoc (snapshot vs (d .store)) (q .0) _)),
+    )
 
 -- and so it is found there
 last-back : (types : List Ty) (vs : List ℕ) (front store : List ℤ) → Good types store
@@ -63,14 +65,18 @@ fine-end end fine k = record { long = k .long ∙ fine .long; good = k .good }
 module _ (types : List Ty) (vs : List ℕ) (run : ℕ → List ℤ → Outcome Done) (visit : ℕ → List ℤ → List ℤ → Outcome Visited)
     (keeps : Keeps types vs run) (goes : Goes vs run)
     (follows : (left₀ : ℕ) → left₀ ≤ 1_000_000 → (old : List ℤ) → Fine types old → Holds
-      (λ d. (new : List ℤ) → Fine types new → (rest : List ℤ) (left : ℕ)
-        → Alike (Step types d rest) (run left new) (visit left (difference types new old) (d .words ++ rest)))
-      (run left₀ old)) where
-
+    (λ d. (new : List ℤ) → Fine types new → (rest : List ℤ) (left : ℕ)
+    → Alike (Step types d rest) (run left new) (visit left (difference types new old) (d .words ++ rest)))
+    (run left₀ old)) where
   -- where the walk stands before the iterations whose old words these are
   abbrev turn : List ℤ → List ℤ → ℕ → List ℤ → Turn
   turn old new left words = record {
-    left = left; changes = difference types new old; old = snapshot vs old; new = snapshot vs new; rest = words }
+    left = left;
+    changes = difference types new old;
+    old = snapshot vs old;
+    new = snapshot vs new;
+    rest = words;
+  }
 
   -- of the end d of k iterations from the old store: the loop follows however many iterations the new run has
   abbrev Loops : ℕ → List ℤ → Done → Type 0
@@ -82,21 +88,23 @@ module _ (types : List Ty) (vs : List ℕ) (run : ℕ → List ℤ → Outcome D
       → Part types (record { store = old; steps = 0; words = [] }) e (record {
         changes = put vs (minusAll types vs (snapshot vs (f .store)) (snapshot vs old)) (difference types new old);
         counts = allFresh (f .steps);
-        words = f .words })
+        words = f .words;
+      })
   unfolding allFresh stepsOf
   grown-part old new fine fine′ e f k q = record {
     counts = allFresh (f .steps);
     total = omega (arith, q .steps);
     closed = ap₂ {C = Walked} (λ c w. record { changes = c; counts = allFresh (f .steps); words = w })
-        (fresh-changes types vs (fine′ .long ∙ sym (fine .long)) k (kept-self types vs old (fine .good)) (q .agree)) (sym (q .words)) }
+        (fresh-changes types vs (fine′ .long ∙ sym (fine .long)) k (kept-self types vs old (fine .good)) (q .agree)) (sym (q .words));
+  }
 
   none-left : (old : List ℤ) → Fine types old → Loops 0 old (record { store = old; steps = 0; words = [] })
   unfolding iterate loop complete grown finished noSteps stepsOf
   none-left old fine zero new fine′ left = values (record { counts = noSteps; total = refl; closed = refl })
   none-left old fine (suc k′) new fine′ left =
       alike-then (iterate run vs (suc k′) left new) (iterate run vs (suc k′) left (put vs (snapshot vs new) (zeros mostVariables))) _
-        (alike-with (keeps-iterate types vs run vs keeps (suc k′) left new (fine′ .good))
-          (goes-iterate vs run vs (λ v m. m) goes (suc k′) left new (put vs (snapshot vs new) (zeros mostVariables)) (restored types vs new fine′))) λ e f p.
+      (alike-with (keeps-iterate types vs run vs keeps (suc k′) left new (fine′ .good))
+      (goes-iterate vs run vs (λ v m. m) goes (suc k′) left new (put vs (snapshot vs new) (zeros mostVariables)) (restored types vs new fine′))) λ e f p.
       values (grown-part old new fine fine′ e f (p .0) (p .1))
 
   -- the iterations that are left, dropped
@@ -104,13 +112,15 @@ module _ (types : List Ty) (vs : List ℕ) (run : ℕ → List ℤ → Outcome D
       → Part types d (record { store = new; steps = 0; words = [] }) (record {
         changes = put vs (minusAll types vs (snapshot vs new) (snapshot vs (d .store))) (difference types new old);
         counts = noSteps;
-        words = [] })
+        words = [];
+      })
   unfolding noSteps stepsOf
   dropped-part old new fine fine′ d k = record {
     counts = noSteps;
     total = refl;
     closed = ap {B = Walked} (λ c. record { changes = c; counts = noSteps; words = [] })
-        (fresh-changes types vs (fine′ .long ∙ sym (fine .long)) (kept-self types vs new (fine′ .good)) k (record { long = refl; on = λ v m. refl })) }
+        (fresh-changes types vs (fine′ .long ∙ sym (fine .long)) (kept-self types vs new (fine′ .good)) k (record { long = refl; on = λ v m. refl }));
+  }
 
   dropped-follows : (k : ℕ) (old : List ℤ) → Fine types old → (d : Done) → EndsSnapped vs d → Kept types vs old (d .store)
       → (new : List ℤ) → Fine types new → (left : ℕ)
@@ -118,12 +128,8 @@ module _ (types : List Ty) (vs : List ℕ) (run : ℕ → List ℤ → Outcome D
   unfolding iterate loop shrunk
   dropped-follows k old fine d end keep new fine′ left =
       let here : lastSnapshot types vs (d .words) ≡ accepted (record { values = snapshot vs (d .store); rest = [] })
-          = ap (lastSnapshot types vs) (end .1) ∙ last-back types vs (end .0) (d .store) (keep .good) in
+      = ap (lastSnapshot types vs) (end .1) ∙ last-back types vs (end .0) (d .store) (keep .good) in
       rw here (values (dropped-part old new fine fine′ d keep))
-
-  sum-of-both : (c e : Counts) (m n : ℕ) → stepsOf c ≡ m → stepsOf e ≡ n → stepsOf (both c e) ≡ m + n
-  unfolding stepsOf both
-  sum-of-both c e m n p q = omega arith
 
   -- of the end d of k + 1 iterations: the loop follows where the new run has one too
   abbrev Follows : ℕ → List ℤ → Done → Type 0
@@ -133,22 +139,23 @@ module _ (types : List Ty) (vs : List ℕ) (run : ℕ → List ℤ → Outcome D
   -- a visited iteration, and then the loop over the rest
   one-turn : (k : ℕ) (old : List ℤ) → Fine types old → (d : Done)
       → ((new : List ℤ) → Fine types new → (rest : List ℤ) (left : ℕ)
-        → Alike (Step types d rest) (run left new) (visit left (difference types new old) (d .words ++ rest)))
+      → Alike (Step types d rest) (run left new) (visit left (difference types new old) (d .words ++ rest)))
       → Kept types vs old (d .store) → (r : Done) → Loops k (d .store) r
       → Follows k old (record { store = r .store; steps = d .steps + r .steps; words = d .words ++ (snapshot vs (d .store) ++ r .words) })
   unfolding iterate loop
   one-turn k old fine d visits keep r loops k′ new fine′ left =
       alike-bind (run left new) (visit left (difference types new old) (d .words ++ (snapshot vs (d .store) ++ r .words))) _ _
-        (alike-with (keeps left new (fine′ .good)) (visits new fine′ (snapshot vs (d .store) ++ r .words) left)) λ d′ b p.
+      (alike-with (keeps left new (fine′ .good)) (visits new fine′ (snapshot vs (d .store) ++ r .words) left)) λ d′ b p.
       let long : length (d′ .store) ≡ length (d .store) = p .0 .long ∙ fine′ .long ∙ sym (fine .long) ∙ sym (keep .long) in
       rw (p .1 .closed, read-back types vs (d .store) (r .words) (keep .good), move-on types vs (d′ .store) (d .store) long (keep .good) (p .0 .good), p .1 .total)
       (alike-bind (iterate run vs k′ (left - d′ .steps) (d′ .store)) (loop types visit run vs k k′ (turn (d .store) (d′ .store) (left - d′ .steps) (r .words))) _ _
-        (loops k′ (d′ .store) (fine-end (d′ .store) fine′ (p .0)) (left - d′ .steps)) λ r′ w q.
+      (loops k′ (d′ .store) (fine-end (d′ .store) fine′ (p .0)) (left - d′ .steps)) λ r′ w q.
       rw (q .closed)
       (values (record {
         counts = both (p .1 .counts) (q .counts);
         total = sum-of-both (p .1 .counts) (q .counts) (d′ .steps) (r′ .steps) (p .1 .total) (q .total);
-        closed = refl })))
+        closed = refl;
+      })))
 
   whole : (k : ℕ) (old : List ℤ) → Fine types old → (d : Done) → EndsSnapped vs d → Kept types vs old (d .store) → Follows k old d → Loops (suc k) old d
   whole k old fine d end keep h zero new fine′ left = dropped-follows k old fine d end keep new fine′ left
@@ -159,8 +166,8 @@ module _ (types : List Ty) (vs : List ℕ) (run : ℕ → List ℤ → Outcome D
   loop-follows zero left₀ most old fine = value (none-left old fine)
   loop-follows (suc k) left₀ most old fine = holds-map (λ d p. whole k old fine d (p .0) (p .1 .0) (p .1 .1))
       (holds-both (iterate-snapped run vs k left₀ old)
-        (holds-both (keeps-iterate types vs run vs keeps (suc k) left₀ old (fine .good))
-          (holds-bind (run left₀ old) _ (holds-both (follows left₀ most old fine) (keeps left₀ old (fine .good))) λ d p.
-          holds-bind (iterate run vs k (left₀ - d .steps) (d .store)) _
-            (loop-follows k (left₀ - d .steps) (omega arith) (d .store) (fine-end (d .store) fine (p .1))) λ r q.
-          value (one-turn k old fine d (p .0) (p .1) r q))))
+      (holds-both (keeps-iterate types vs run vs keeps (suc k) left₀ old (fine .good))
+      (holds-bind (run left₀ old) _ (holds-both (follows left₀ most old fine) (keeps left₀ old (fine .good))) λ d p.
+      holds-bind (iterate run vs k (left₀ - d .steps) (d .store)) _
+      (loop-follows k (left₀ - d .steps) (omega arith) (d .store) (fine-end (d .store) fine (p .1))) λ r q.
+      value (one-turn k old fine d (p .0) (p .1) r q))))

@@ -40,6 +40,11 @@ pub holds-if : {A : Type 0} {P : A → Type 0} (m : Outcome A) → ((a : A) → 
 holds-if (accepted a) f = value (f a refl)
 holds-if (refused r) f = vacant
 
+-- for every i
+pub holds-all : {A I : Type 0} {P : I → A → Type 0} (m : Outcome A) → ((i : I) → Holds (P i) m) → Holds (λ a. (i : I) → P i a) m
+holds-all (accepted a) h = value (λ i. holds-of (h i))
+holds-all (refused r) h = vacant
+
 -- nothing in particular
 pub holds-any : {A : Type 0} (m : Outcome A) → Holds (λ a. Unit {0}) m
 holds-any (accepted a) = value tt

@@ -81,7 +81,7 @@ module _ (vs : List ℕ) where
         agree = p .agree;
       })
 
-  goes-choose : (b : Bool) (one two : ℕ → List ℤ → Outcome Done) → Goes one → Goes two → Goes (choose b one two)
+  pub goes-choose : (b : Bool) (one two : ℕ → List ℤ → Outcome Done) → Goes one → Goes two → Goes (choose b one two)
   goes-choose true one two h k = h
   goes-choose false one two h k = k
 

@@ -106,7 +106,7 @@ module _ (types : List Ty) (vs : List ℕ) where
       holds-bind (iterate body ws n (left - d .steps) (d .store)) _ (keeps-iterate body ws h n (left - d .steps) (d .store) (k .good)) λ r l.
       value (kept-then k l)
 
-  keeps-choose : (b : Bool) (one two : ℕ → List ℤ → Outcome Done) → Keeps one → Keeps two → Keeps (choose b one two)
+  pub keeps-choose : (b : Bool) (one two : ℕ → List ℤ → Outcome Done) → Keeps one → Keeps two → Keeps (choose b one two)
   keeps-choose true one two h k = h
   keeps-choose false one two h k = k
 
