@@ -9,3 +9,4 @@ pub mod Entry
 pub mod Branch
 pub mod Loop
 pub mod Walk
+pub mod Table

@@ -3,7 +3,7 @@
 -- Nodes are made into trees in rising order. A child is looked up among the parts made before, so "a child's number is below
 -- its parent's" is that the child is there; its type and sort are those of its part.
 -- Assumes nothing.
-use Prim.Native.Nat.{ℕ, zero, suc, _+_, _-_, _*_}
+use Prim.Native.Nat.{ℕ, zero, suc, _+_, _-_, _*_, _%_}
 use mathlib.Core.Bool.{Bool, true, false, not, _&&_}
 use mathlib.Core.Option.{Option, none, some}
 use mathlib.Core.List.{List, [], _∷_, _++_, map}
@@ -22,9 +22,9 @@ byte bytes i = getD bytes i 0
 unfoldable pub u16 : List ℕ → ℕ → ℕ
 u16 bytes i = byte bytes i + 256 * byte bytes (suc i)
 
--- 32 bits as a signed number
+-- 32 bits as a signed number: half the range up, round, and half the range down
 unfoldable pub signed : ℕ → ℤ
-signed n = choose (ltb n 2_147_483_648) (pos n) (subℕ n 4_294_967_296)
+signed n = subℕ ((n + 2_147_483_648) % 4_294_967_296) 2_147_483_648
 
 -- ---- refusal 1: the header
 

@@ -45,6 +45,11 @@ pub holds-all : {A I : Type 0} {P : I → A → Type 0} (m : Outcome A) → ((i 
 holds-all (accepted a) h = value (λ i. holds-of (h i))
 holds-all (refused r) h = vacant
 
+-- what holds whatever the value is
+pub holds-const : {A P : Type 0} (m : Outcome A) → P → Holds (λ a. P) m
+holds-const (accepted a) p = value p
+holds-const (refused r) p = vacant
+
 -- nothing in particular
 pub holds-any : {A : Type 0} (m : Outcome A) → Holds (λ a. Unit {0}) m
 holds-any (accepted a) = value tt
