@@ -10,3 +10,4 @@ pub mod Branch
 pub mod Loop
 pub mod Walk
 pub mod Table
+pub mod Call

@@ -160,7 +160,7 @@ check-sound bytes =
     holds-bind (checkTypes (typeBytes bytes)) _ (holds-any (checkTypes (typeBytes bytes))) λ u₂ any.
     holds-bind (makeAll (typesOf bytes) [] (nodesOf bytes)) _ (all-typed (typesOf bytes) [] tt (nodesOf bytes)) λ parts typed.
     holds-bind (asStatement (getElem? parts (length parts - 1))) _
-      (statement-typed (typesOf bytes) (getElem? parts (length parts - 1)) (found-typed (typesOf bytes) parts typed (length parts - 1))) λ root h.
+    (statement-typed (typesOf bytes) (getElem? parts (length parts - 1)) (found-typed (typesOf bytes) parts typed (length parts - 1))) λ root h.
     holds-bind (checkUses (length parts - 1) (children (nodesOf bytes))) _ (holds-any (checkUses (length parts - 1) (children (nodesOf bytes)))) λ u₃ once.
     holds-need (leb (depth root) mostDepth) tooDeep _ λ shallow.
     value (record { few = types-few bytes few; typed = h })
