@@ -11,3 +11,4 @@ pub mod Loop
 pub mod Walk
 pub mod Table
 pub mod Call
+pub mod Rerun

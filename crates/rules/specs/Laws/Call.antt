@@ -9,7 +9,7 @@ use mathlib.Core.Logic.{_⊎_, inl, inr}
 use mathlib.Core.Bool.{Bool, true, false, false≢true, _&&_}
 use mathlib.Core.List.{List, [], _∷_, _++_, append-assoc, append-nil}
 use lib.ListN.{length, take, drop, replicate, length-append, length-replicate}
-use lib.Seq.{ext-getD, take-at, drop-at}
+use lib.Seq.{ext-getD, take-at, drop-at, length-take-le}
 use lib.Dec.{leb}
 use lib.IntN.{ℤ, pos, natAbs, _+ℤ_}
 use borrow.Author.Tests.{le-leb, leb-true}
@@ -152,6 +152,25 @@ outputs-moved (t ∷ ts) (o ∷ os) [] e le go gn = absurd (omega arith)
 outputs-moved (t ∷ ts) (o ∷ os) (n ∷ ns) e le go gn =
     ap₂ {C = List ℤ} (λ z zs. z ∷ zs) (plus-minus t o n (go zero) (gn zero))
     (outputs-moved ts os ns (omega arith) (omega arith) (λ v. go (suc v)) (λ v. gn (suc v)))
+
+plus-front : (types : List Ty) (outs changes behind : List ℤ) → length types ≤ length changes
+    → plusAll types outs (take (length types) changes ++ behind) ≡ plusAll types outs changes
+unfolding plusAll
+plus-front [] outs changes behind le = refl
+plus-front (t ∷ ts) [] changes behind le = refl
+plus-front (t ∷ ts) (o ∷ os) [] behind le = absurd (omega arith)
+plus-front (t ∷ ts) (o ∷ os) (c ∷ cs) behind le = ap {B = List ℤ} (λ zs. plus t o c ∷ zs) (plus-front ts os cs behind (omega arith))
+
+-- the reported changes are those of the table's variables
+pub plus-padded : (types : List Ty) (outs changes : List ℤ) → length types ≤ length changes
+    → plusAll types outs (padded (take (length types) changes)) ≡ plusAll types outs changes
+unfolding padded
+plus-padded types outs changes le = plus-front types outs changes (zeros (mostVariables - length (take (length types) changes))) le
+
+-- and so are the reported values
+pub take-padded : (n : ℕ) (words : List ℤ) → n ≤ length words → take n (padded (take n words)) ≡ take n words
+unfolding padded
+take-padded n words le = take-at (take n words) (zeros (mostVariables - length (take n words))) n (length-take-le n words le)
 
 -- ---- the header of a record is read back
 
