@@ -101,7 +101,23 @@ callRun bytes inputs limit room = answered room (finishRun bytes inputs limit >>
 
 -- ---- the patch
 
--- the old record's header, and the words behind it up to L
+-- what a record's header names: length L, fuel limit, steps, V inputs, V outputs
+unfoldable pub lengthOf : List ℤ → ℤ
+lengthOf words = at words 0
+
+unfoldable pub limitOf : List ℤ → ℤ
+limitOf words = at words 1
+
+unfoldable pub stepsIn : List ℤ → ℤ
+stepsIn words = at words 2
+
+unfoldable pub inputsOf : List Ty → List ℤ → List ℤ
+inputsOf types words = take (length types) (drop headed words)
+
+unfoldable pub outputsOf : List Ty → List ℤ → List ℤ
+outputsOf types words = take (length types) (drop (headed + length types) words)
+
+-- the header of an old record that is not broken, and the words behind it up to L
 pub record Header : Type 0 where
   pub limit : ℕ
   pub inputs : List ℤ
@@ -112,23 +128,20 @@ pub record Header : Type 0 where
 -- 1..limit; an input or output outside its type."
 unfoldable pub header : List Ty → List ℤ → Outcome Header
 header types old =
-    let n = length types in
-    let least = headed + 2 * n in
-    let inputs = take n (drop headed old) in
-    let outputs = take n (drop (headed + n) old) in do
+    let least = headed + 2 * length types in do
       _ ← need (leb least (length old)) broken
-      _ ← need (leZ (pos least) (at old 0)) broken
-      _ ← need (leZ (at old 0) (pos (length old))) broken
-      _ ← need (between (pos 1) mostSteps (at old 1)) broken
-      _ ← need (between (pos 1) (at old 1) (at old 2)) broken
-      _ ← need (fit types inputs) broken
-      _ ← need (fit types outputs) broken
+      _ ← need (leZ (pos least) (lengthOf old)) broken
+      _ ← need (leZ (lengthOf old) (pos (length old))) broken
+      _ ← need (between (pos 1) mostSteps (limitOf old)) broken
+      _ ← need (between (pos 1) (limitOf old) (stepsIn old)) broken
+      _ ← need (fit types (inputsOf types old)) broken
+      _ ← need (fit types (outputsOf types old)) broken
       accepted
           (record {
-            limit = natAbs (at old 1);
-            inputs = inputs;
-            outputs = outputs;
-            root = take (natAbs (at old 0) - least) (drop least old);
+            limit = natAbs (limitOf old);
+            inputs = inputsOf types old;
+            outputs = outputsOf types old;
+            root = take (natAbs (lengthOf old) - least) (drop least old);
           })
 
 -- a truth's change is 0 or 1

@@ -12,3 +12,4 @@ pub mod Walk
 pub mod Table
 pub mod Call
 pub mod Rerun
+pub mod Answer

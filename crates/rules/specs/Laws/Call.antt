@@ -11,14 +11,16 @@ use mathlib.Core.List.{List, [], _∷_, _++_, append-assoc, append-nil}
 use lib.ListN.{length, take, drop, replicate, length-append, length-replicate}
 use lib.Seq.{ext-getD, take-at, drop-at, length-take-le}
 use lib.Dec.{leb}
-use lib.IntN.{ℤ, pos, natAbs, _+ℤ_}
+use lib.Signed.{leZ}
+use lib.IntN.{ℤ, pos, negsuc, natAbs}
 use borrow.Author.Tests.{le-leb, leb-true}
 use Rattle.numbers.specs.Signed.{between}
 use Rattle.numbers.specs.Laws.{and-left, and-right, and-both, sub-back}
-use Rattle.rules.specs.Outcome.{Refusal, Outcome, accepted, refused, _>>=_, need}
+use Rattle.rules.specs.Outcome.{Refusal, Outcome, accepted, refused, _>>=_, need, broken}
 use Rattle.rules.specs.Value.{Ty, mostVariables, zeros, inType, differ, plus, minus, typeOf, at, padded, fit, plusAll}
-use Rattle.rules.specs.Run.{mostSteps, recordOf}
-use Rattle.rules.specs.Call.{Header, header, isChange, legal}
+use Rattle.rules.specs.Run.{headed, mostSteps, recordOf}
+use Rattle.rules.specs.Call.{lengthOf, limitOf, stepsIn, inputsOf, outputsOf, Header, header, isChange, legal}
+use Rattle.rules.specs.Laws.Outcome.{Holds, value, holds-need}
 use Rattle.rules.specs.Laws.Value.{truth-cases, zero-in, plus-minus, minus-self}
 use Rattle.rules.specs.Laws.Store.{Good, difference, at-difference, length-difference}
 use Rattle.rules.specs.Laws.Entry.{Fine}
@@ -225,7 +227,7 @@ module _ (types : List Ty) (inputs outputs words behind : List ℤ) (fits : fit 
   pub header-back : (limit steps : ℕ) → 1 ≤ limit → limit ≤ 1_000_000 → 1 ≤ steps → steps ≤ limit
       → header types (recordOf limit steps inputs outputs words ++ behind)
       ≡ accepted (record { limit = limit; inputs = inputs; outputs = outputs; root = words })
-  unfolding header recordOf mostSteps between
+  unfolding header lengthOf limitOf stepsIn inputsOf outputsOf recordOf mostSteps between
   header-back limit steps l₁ l₂ s₁ s₂ =
       let n : ℕ = length types in
       let w : ℕ = length words in
@@ -248,3 +250,27 @@ module _ (types : List Ty) (inputs outputs words behind : List ℤ) (fits : fit 
         three-more (2 * n),
         tail-root,
       ) refl
+
+-- a limit that is one
+pub in-limits : (limit : ℤ) → between (pos 1) mostSteps limit ≡ true → (limit ≡ pos (natAbs limit)) × (1 ≤ natAbs limit) × (natAbs limit ≤ 1_000_000)
+unfolding between mostSteps
+in-limits (pos n) h = (refl, leb-true 1 n (and-left (leb 1 n) (leb n 1_000_000) h), leb-true n 1_000_000 (and-right (leb 1 n) (leb n 1_000_000) h))
+in-limits (negsuc n) h = absurd (false≢true h)
+
+-- what is read of a header is what it names
+pub record Names (types : List Ty) (old : List ℤ) (h : Header) : Type 0 where
+  pub limit : limitOf old ≡ pos (h .limit)
+  pub inputs : inputsOf types old ≡ h .inputs
+  pub outputs : outputsOf types old ≡ h .outputs
+
+pub header-names : (types : List Ty) (old : List ℤ) → Holds (Names types old) (header types old)
+unfolding header
+header-names types old =
+    holds-need (leb (headed + 2 * length types) (length old)) broken _ λ e₁.
+    holds-need (leZ (pos (headed + 2 * length types)) (lengthOf old)) broken _ λ e₂.
+    holds-need (leZ (lengthOf old) (pos (length old))) broken _ λ e₃.
+    holds-need (between (pos 1) mostSteps (limitOf old)) broken _ λ e₄.
+    holds-need (between (pos 1) (limitOf old) (stepsIn old)) broken _ λ e₅.
+    holds-need (fit types (inputsOf types old)) broken _ λ e₆.
+    holds-need (fit types (outputsOf types old)) broken _ λ e₇.
+    value (record { limit = in-limits (limitOf old) e₄ .0; inputs = refl; outputs = refl })

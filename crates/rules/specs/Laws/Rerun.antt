@@ -25,7 +25,7 @@ use Rattle.rules.specs.Laws.Typed.{Kept, run-keeps}
 use Rattle.rules.specs.Laws.Entry.{Fine, Step, Visits, steps-within, steps-some}
 use Rattle.rules.specs.Laws.Walk.{entry-follows}
 use Rattle.rules.specs.Laws.Table.{Sound, check-sound}
-use Rattle.rules.specs.Laws.Call.{plus-padded, take-padded, padded-fine, good-fit, legal-fit, legal-difference, outputs-moved, header-back}
+use Rattle.rules.specs.Laws.Call.{plus-padded, take-padded, padded-fine, good-fit, legal-fit, legal-difference, outputs-moved, header-back, in-limits, Names, header-names}
 
 -- these are the words that an accepted run of the table left
 pub record Made (bytes : List ℕ) (words : List ℤ) : Type 0 where
@@ -84,9 +84,23 @@ module _ (bytes : List ℕ) (words : List ℤ) (made : Made bytes words) where
       (good-fit types (end .store) (kept .good) (room (padded inputs) (end .store) fine kept)) limit (end .steps) some most
       (steps-some root limit (padded inputs) end ran) (steps-within root limit (padded inputs) end ran)
 
+  -- the limit, inputs and outputs are those that the record names
+  pub named : Names types words (record { limit = limit; inputs = inputs; outputs = outputs; root = end .words })
+  named = holds-of (subst (Holds (Names types words)) (ap (header types) (sym (append-nil words)) ∙ opened []) (header-names types words))
+
   in-limit : between (pos 1) mostSteps (pos limit) ≡ true
   unfolding between mostSteps
   in-limit = and-both (le-leb 1 limit some) (le-leb limit 1_000_000 most)
+
+  -- the run that left the record, as a whole
+  pub finished : finishRun bytes inputs (pos limit) ≡ accepted (record {
+    counts = allFresh (end .steps);
+    words = recordOf limit (end .steps) inputs outputs (end .words);
+    values = padded outputs;
+    changes = zeros mostVariables;
+  })
+  unfolding finishRun
+  finished = rw (checked, fits, in-limit, ran)
 
   module _ (changes : List ℤ) (h : legal types inputs changes ≡ true) where
     fine′ : Fine types (padded (plusAll types inputs changes))
@@ -159,11 +173,6 @@ module _ (bytes : List ℕ) (words : List ℤ) (made : Made bytes words) where
   patch-legal behind changes = rw (checked, opened behind) (holds-need (legal types inputs changes) changeWrong _ λ e. holds-const _ e)
 
 -- ---- what accepted calls leave
-
-in-limits : (limit : ℤ) → between (pos 1) mostSteps limit ≡ true → (limit ≡ pos (natAbs limit)) × (1 ≤ natAbs limit) × (natAbs limit ≤ 1_000_000)
-unfolding between mostSteps
-in-limits (pos n) h = (refl, leb-true 1 n (and-left (leb 1 n) (leb n 1_000_000) h), leb-true n 1_000_000 (and-right (leb 1 n) (leb n 1_000_000) h))
-in-limits (negsuc n) h = absurd (false≢true h)
 
 -- an accepted run leaves the record of a run
 pub run-made : (bytes : List ℕ) (inputs : List ℤ) (limit : ℤ) → Holds (λ f. Made bytes (f .words)) (finishRun bytes inputs limit)
