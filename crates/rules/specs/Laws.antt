@@ -13,3 +13,4 @@ pub mod Table
 pub mod Call
 pub mod Rerun
 pub mod Answer
+pub mod Published
