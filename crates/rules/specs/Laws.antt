@@ -14,3 +14,5 @@ pub mod Call
 pub mod Rerun
 pub mod Answer
 pub mod Published
+pub mod Whole
+pub mod Parts
