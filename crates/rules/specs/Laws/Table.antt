@@ -70,7 +70,7 @@ more-typed : (types : List Ty) (parts : List Part) (p : Part) → AllTyped types
 more-typed types [] p h k = (k, tt)
 more-typed types (q ∷ qs) p h k = (h .0, more-typed types qs p (h .1) k)
 
-is-type : (t u : Ty) → isType t u ≡ true → u ≡ t
+pub is-type : (t u : Ty) → isType t u ≡ true → u ≡ t
 unfolding isType
 is-type Ty.number Ty.number e = refl
 is-type Ty.number Ty.truth e = absurd (false≢true e)
