@@ -4,7 +4,7 @@
 use mathlib.Core.Path.{_≡_, refl, sym, ap, ap₂, _∙_, subst}
 use Prim.Native.Nat.{ℕ, zero, suc, _+_, _-_, _*_, _≤_, _<_}
 use native.Mathlib.Omega.{arith}
-use native.Mathlib.Nat.{add-zero, mul-suc}
+use native.Mathlib.Nat.{add-zero, zero-add, mul-suc}
 use mathlib.Core.Bool.{Bool, true, false}
 use mathlib.Core.Option.{Option, none, some}
 use mathlib.Core.List.{List, [], _∷_, _++_, append-assoc, append-nil}
@@ -13,11 +13,11 @@ use lib.Seq.{take-append-seam, drop-drop}
 use lib.Dec.{leb, ltb}
 use borrow.Author.Tests.{leb-true, ltb-true}
 use lib.IntN.{ℤ, pos}
-use Rattle.rules.specs.Outcome.{Refusal, Outcome, accepted, refused, _>>=_, need, nodeWrong}
+use Rattle.rules.specs.Outcome.{Refusal, Outcome, accepted, refused, _>>=_, need, nodeWrong, tooDeep}
 use Rattle.rules.specs.Value.{Ty, typeOf}
-use Rattle.rules.specs.Tree.{Operator, Expression, Statement, gives, reads, mentions}
+use Rattle.rules.specs.Tree.{Operator, Expression, Statement, gives, depth, reads, mentions}
 use Rattle.rules.specs.Laws.Table.{is-type}
-use Rattle.rules.specs.Table.{nodes, nodesAt, typesOf, Node, readNode, constantOf, nodesFrom, isType, nodesOf, Kind, numberConstant, truthConstant, variable, operator, skip, assign, sequence, if, repeat, kinds, kindOf, Part, expression, statement, asExpression, asStatement, unused, make, makeKind, makeAll, rootOf, Program, check}
+use Rattle.rules.specs.Table.{nodes, nodesAt, typesOf, Node, readNode, constantOf, nodesFrom, isType, checkHeader, checkTypes, typeBytes, children, checkUses, mostDepth, nodesOf, Kind, numberConstant, truthConstant, variable, operator, skip, assign, sequence, if, repeat, kinds, kindOf, Part, expression, statement, asExpression, asStatement, unused, make, makeKind, makeAll, rootOf, Program, check}
 use Rattle.rules.specs.Laws.Outcome.{Holds, value, vacant, holds-bind, holds-need, holds-of, holds-if, holds-any, holds-map}
 
 -- ---- what stands at a node
@@ -55,6 +55,7 @@ pub record MadeAt (types : List Ty) (all : List Part) (i : ℕ) (n : Node) : Typ
 record Grows (types : List Ty) (before : List Part) (ns : List Node) (all : List Part) : Type 0 where
   rest : List Part
   split : all ≡ before ++ rest
+  long : length all ≡ length before + length ns
   at : (j : ℕ) (n : Node) → getElem? ns j ≡ some n → MadeAt types all (length before + j) n
 
 there : {A : Type 0} (xs : List A) (y : A) (ys : List A) → getElem? (xs ++ y ∷ ys) (length xs) ≡ some y
@@ -73,27 +74,30 @@ first-made : (types : List Ty) (before : List Part) (n : Node) (p : Part) (rest 
 first-made types before n p rest all m e = record {
   part = p;
   here = rw (e, add-zero (length before)) (there before p rest);
-  made = rw (e, add-zero (length before), take-append-seam before (p ∷ rest)) m }
+  made = rw (e, add-zero (length before), take-append-seam before (p ∷ rest)) m;
+}
 
 step-made : (types : List Ty) (before : List Part) (n : Node) (ns : List Node) (p : Part) (all : List Part)
     → makeKind types before (length before) n (kindOf (n .kind)) ≡ accepted p
     → Grows types (before ++ p ∷ []) ns all → Grows types before (n ∷ ns) all
-step-made types before n ns p all m g = record { rest = p ∷ g .rest; split = whole; at = each }
+step-made types before n ns p all m g = record { rest = p ∷ g .rest; split = whole; long = g .long ∙ further (length ns); at = each }
   where
     whole : all ≡ before ++ p ∷ g .rest
     whole = g .split ∙ append-assoc before (p ∷ []) (g .rest)
+
     further : (j : ℕ) → length (before ++ p ∷ []) + j ≡ length before + suc j
     further j = ap (λ (k : ℕ). k + j) (length-append before (p ∷ [])) ∙ omega arith
+
     each : (j : ℕ) (k : Node) → getElem? (n ∷ ns) j ≡ some k → MadeAt types all (length before + j) k
     each zero k e = subst (λ (x : Node). MadeAt types all (length before + 0) x) (some-injective e) (first-made types before n p (g .rest) all m whole)
     each (suc j) k e = subst (λ (i : ℕ). MadeAt types all i k) (further j) (g .at j k e)
 
 all-made : (types : List Ty) (before : List Part) (ns : List Node) → Holds (Grows types before ns) (makeAll types before ns)
 unfolding makeAll
-all-made types before [] = value (record { rest = []; split = sym (append-nil before); at = λ j n e. absurd (none-some e) })
+all-made types before [] = value (record { rest = []; split = sym (append-nil before); long = sym (add-zero (length before)); at = λ j n e. absurd (none-some e) })
 all-made types before (n ∷ ns) =
     holds-bind (makeKind types before (length before) n (kindOf (n .kind))) _
-      (holds-if (makeKind types before (length before) n (kindOf (n .kind))) (λ p e. e)) λ p m.
+    (holds-if (makeKind types before (length before) n (kindOf (n .kind))) (λ p e. e)) λ p m.
     holds-map (λ all g. step-made types before n ns p all m g) (all-made types (before ++ p ∷ []) ns)
 
 -- ---- the number of a kind
@@ -173,7 +177,7 @@ module _ (types : List Ty) (before : List Part) (self : ℕ) (n : Node) where
   Built repeat p = (e : Expression) × (s : Statement) × (p ≡ statement (Statement.repeat self e s)) × Child (n .a) (expression Ty.number e) × Child (n .b) (statement s)
 
   free : {Q : Part → Type 0} (m : Outcome (Unit {0})) (next : Unit {0} → Outcome Part) → Holds Q (next tt) → Holds Q (m >>= next)
-  free (accepted tt) next h = h
+  free (accepted u) next h = h
   free (refused r) next h = vacant
 
   pub make-built : (k : Kind) → Holds (Built k) (make types before self n k)
@@ -222,3 +226,106 @@ nodes-found (suc n) (suc i) bytes h = nodes-found n i (drop 8 bytes) (omega arit
   where
     eight : 8 + 8 * i ≡ 8 * suc i
     eight = omega (arith, mul-suc 8 i)
+
+length-nodes : (n : ℕ) (bytes : List ℕ) → length (nodesFrom n bytes) ≡ n
+unfolding nodesFrom
+length-nodes zero bytes = refl
+length-nodes (suc n) bytes = ap suc (length-nodes n (drop 8 bytes))
+
+below-length : {A : Type 0} (xs : List A) (i : ℕ) (x : A) → getElem? xs i ≡ some x → i < length xs
+below-length [] i x e = absurd (none-some e)
+below-length (y ∷ ys) zero x e = omega arith
+below-length (y ∷ ys) (suc i) x e = omega (arith, below-length ys i x e)
+
+-- what the check has gone through where it accepts
+pub record Through (bytes : List ℕ) (p : Program) : Type 0 where
+  pub header : checkHeader bytes ≡ accepted tt
+  pub parts : makeAll (typesOf bytes) [] (nodesOf bytes) ≡ accepted (partsOf bytes)
+  pub types : p .types ≡ typesOf bytes
+  pub root : getElem? (partsOf bytes) (length (partsOf bytes) - 1) ≡ some (statement (p .root))
+
+through-of : (bytes : List ℕ) (ps : List Part) (root : Statement) → checkHeader bytes ≡ accepted tt
+    → makeAll (typesOf bytes) [] (nodesOf bytes) ≡ accepted ps → getElem? ps (length ps - 1) ≡ some (statement root)
+    → Through bytes (record { types = typesOf bytes; root = root })
+unfolding partsOf
+through-of bytes ps root head made found =
+    let same : partsIn (makeAll (typesOf bytes) [] (nodesOf bytes)) ≡ ps = ap partsIn made in
+    record {
+      header = head;
+      parts = made ∙ ap accepted (sym same);
+      types = refl;
+      root = ap (λ (qs : List Part). getElem? qs (length qs - 1)) same ∙ found;
+    }
+
+check-through : (bytes : List ℕ) → Holds (Through bytes) (check bytes)
+unfolding check rootOf
+check-through bytes =
+    holds-bind (checkHeader bytes) _ (holds-if (checkHeader bytes) (λ u e. e)) λ u head.
+    free′ (checkTypes (typeBytes bytes)) _
+    (holds-bind (makeAll (typesOf bytes) [] (nodesOf bytes)) _ (holds-if (makeAll (typesOf bytes) [] (nodesOf bytes)) (λ ps e. e)) λ ps made.
+    holds-bind (asStatement (getElem? ps (length ps - 1))) _ (found-statement (getElem? ps (length ps - 1))) λ root found.
+    free′ (checkUses (length ps - 1) (children (nodesOf bytes))) _
+    (holds-need (leb (depth root) mostDepth) tooDeep _ λ shallow.
+    value (through-of bytes ps root head made found)))
+  where
+    free′ : {Q : Program → Type 0} (m : Outcome (Unit {0})) (next : Unit {0} → Outcome Program) → Holds Q (next tt) → Holds Q (m >>= next)
+    free′ (accepted u) next h = h
+    free′ (refused r) next h = vacant
+
+module _ (bytes : List ℕ) (p : Program) (checked : check bytes ≡ accepted p) where
+  pub through : Through bytes p
+  through = holds-of (subst (Holds (Through bytes)) checked (check-through bytes))
+
+  grows : Grows (typesOf bytes) [] (nodesOf bytes) (partsOf bytes)
+  grows = holds-of (subst (Holds (Grows (typesOf bytes) [] (nodesOf bytes))) (through .parts) (all-made (typesOf bytes) [] (nodesOf bytes)))
+
+  pub parts-long : length (partsOf bytes) ≡ nodes bytes
+  unfolding nodesOf
+  parts-long = grows .long ∙ zero-add (length (nodesOf bytes)) ∙ length-nodes (nodes bytes) (drop (nodesAt bytes) bytes)
+
+  pub root-at : partAt bytes (nodes bytes - 1) ≡ some (statement (p .root))
+  unfolding partAt
+  root-at = ap (λ (n : ℕ). getElem? (partsOf bytes) (n - 1)) (sym parts-long) ∙ through .root
+
+  -- a node that has a part is one of the table
+  pub part-below : (i : ℕ) (q : Part) → partAt bytes i ≡ some q → i < nodes bytes
+  unfolding partAt
+  part-below i q e = subst (λ n. i < n) parts-long (below-length (partsOf bytes) i q e)
+
+  made-at : (i : ℕ) → i < nodes bytes → MadeAt (typesOf bytes) (partsOf bytes) i (nodeAt bytes i)
+  unfolding nodesOf nodeAt
+  made-at i below = subst (λ k. MadeAt (typesOf bytes) (partsOf bytes) k (readNode (drop (nodesAt bytes + 8 * i) bytes))) (zero-add i)
+      (grows .at i (readNode (drop (nodesAt bytes + 8 * i) bytes))
+      (nodes-found (nodes bytes) i (drop (nodesAt bytes) bytes) below
+      ∙ ap (λ (bs : List ℕ). some (readNode bs)) (drop-drop (8 * i) (nodesAt bytes) bytes)))
+
+  -- what stands at a node: its kind, and what it is built of
+  pub record Stands (i : ℕ) (q : Part) : Type 0 where
+    pub kind : Kind
+    pub number : nodeAt bytes i .kind ≡ numberOfKind kind
+    pub built : Built (typesOf bytes) (take i (partsOf bytes)) i (nodeAt bytes i) kind q
+
+  by-kind : (i : ℕ) (q : Part) (o : Option Kind) → kindOf (nodeAt bytes i .kind) ≡ o
+      → makeKind (typesOf bytes) (take i (partsOf bytes)) i (nodeAt bytes i) o ≡ accepted q → Stands i q
+  unfolding makeKind
+  by-kind i q none e m = absurd (refused-accepted m)
+    where
+      refused-accepted : _≡_ {A = Outcome Part} (refused nodeWrong) (accepted q) → ⊥
+      refused-accepted r = let z : _≡_ {A = ℕ} 0 1 = cc in omega arith
+  by-kind i q (some k) e m = record {
+    kind = k;
+    number = sym (kind-number (nodeAt bytes i .kind) k e);
+    built = holds-of (subst (Holds (Built (typesOf bytes) (take i (partsOf bytes)) i (nodeAt bytes i) k)) m
+        (make-built (typesOf bytes) (take i (partsOf bytes)) i (nodeAt bytes i) k));
+  }
+
+  pub stands : (i : ℕ) (q : Part) → partAt bytes i ≡ some q → Stands i q
+  unfolding partAt
+  stands i q e =
+      let m = made-at i (part-below i q (unfold partAt in e)) in
+      subst (Stands i) (some-injective (sym (m .here) ∙ e)) (by-kind i (m .part) (kindOf (nodeAt bytes i .kind)) refl (m .made))
+
+  -- a child of a node is below it, and has its part
+  pub child-at : (i c : ℕ) (q : Part) → getElem? (take i (partsOf bytes)) c ≡ some q → (c < i) × (partAt bytes c ≡ some q)
+  unfolding partAt
+  child-at i c q e = take-found (partsOf bytes) i c q e
