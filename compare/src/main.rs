@@ -1,0 +1,233 @@
+//! The commands of `compare`.
+
+use compare::case::{bytes_of_hex, hex_of_bytes, parse_file, print, Case};
+use compare::{define, generate, interpret, listing, table, tally, teeth, text};
+use std::io::{Read, Write};
+
+const HELP: &str = "compare: an independent interpreter, and the cases it is compared on
+
+  compare generate SEED COUNT    write COUNT cases with the interpreter's answers
+  compare interpret FILE         hold the interpreter to the cases of a file
+  compare define FILE [REPOSITORY]
+                                 hold the definitions of this repository, or of
+                                 another copy of it, to the cases of a file
+  compare teeth FILE [NAME..]    try the named wrong edits of the definitions, or
+                                 all: the cases of a file or the marked cases
+                                 must catch each
+  compare tally FILE [--agreement]
+                                 count the cases of a file; with --agreement
+                                 fail unless there are enough of every sort
+  compare list FILE              the listing of one session's bytes
+  compare session SCRIPT LIMIT INPUT.. [/ CHANGE..]..
+                                 write a session's bytes: the table of a script
+                                 text, a limit, V inputs, and behind each lone
+                                 slash a list of V changes
+  compare assemble SCRIPT        the hex of a script text's table
+  compare show HEX               the script text of a table
+
+FILE and SCRIPT may be - for standard input. Exit status: 0, or 1 when a case
+fails, an edit is not caught or a file is wrong, or 2 for wrong arguments.
+";
+
+/// What a command ends with: its exit status, after saying why.
+type Ended = Result<i32, String>;
+
+// Take the arguments apart and carry out the command.
+fn main() {
+    let words: Vec<String> = std::env::args().skip(1).collect();
+    let words: Vec<&str> = words.iter().map(|word| word.as_str()).collect();
+    let ended = match words.as_slice() {
+        ["help"] | ["--help"] | ["-h"] => {
+            show(HELP.as_bytes());
+            Ok(0)
+        }
+        ["generate", seed, count] => command_generate(seed, count),
+        ["interpret", file] => command_interpret(file),
+        ["define", file] => command_define(file, None),
+        ["define", file, root] => command_define(file, Some(root)),
+        ["teeth", file, names @ ..] => command_teeth(file, names),
+        ["tally", file] => command_tally(file, false),
+        ["tally", file, "--agreement"] => command_tally(file, true),
+        ["list", file] => command_list(file),
+        ["session", script, limit, rest @ ..] => command_session(script, limit, rest),
+        ["assemble", script] => command_assemble(script),
+        ["show", hex] => command_show(hex),
+        [] => Err("no command; see compare help".to_string()),
+        [first, ..] => Err(format!("wrong arguments of `{first}`; see compare help")),
+    };
+    let status = ended.unwrap_or_else(|why| {
+        eprintln!("compare: {why}");
+        2
+    });
+    std::process::exit(status);
+}
+
+// Write bytes to standard output; a reader that has gone ends the program.
+fn show(bytes: &[u8]) {
+    let mut out = std::io::stdout().lock();
+    if out.write_all(bytes).and_then(|_| out.flush()).is_err() {
+        std::process::exit(1);
+    }
+}
+
+// The bytes of a file, or of standard input for `-`.
+fn read(file: &str) -> Result<Vec<u8>, String> {
+    let mut bytes = Vec::new();
+    let done = if file == "-" {
+        std::io::stdin().lock().read_to_end(&mut bytes).map(|_| ())
+    } else {
+        std::fs::read(file).map(|read| bytes = read)
+    };
+    match done {
+        Ok(()) => Ok(bytes),
+        Err(why) => Err(format!("{file}: {why}")),
+    }
+}
+
+// The cases of a file; a wrong line ends with status 1.
+fn read_cases(file: &str) -> Result<Result<Vec<Case>, i32>, String> {
+    let bytes = read(file)?;
+    let text = String::from_utf8(bytes).map_err(|_| format!("{file}: not text"))?;
+    Ok(parse_file(&text).map_err(|why| {
+        eprintln!("compare: {file}: {why}");
+        1
+    }))
+}
+
+// A decimal number among the arguments.
+fn number<T: std::str::FromStr>(word: &str, what: &str) -> Result<T, String> {
+    word.parse().map_err(|_| format!("`{word}` is no {what}"))
+}
+
+// compare generate SEED COUNT
+fn command_generate(seed: &str, count: &str) -> Ended {
+    let seed: u64 = number(seed, "seed")?;
+    let count: usize = number(count, "count")?;
+    let mut generator = generate::Generator::new(seed);
+    for _ in 0..count {
+        let line = print(&generator.case()) + "\n";
+        show(line.as_bytes());
+    }
+    Ok(0)
+}
+
+// compare interpret FILE
+fn command_interpret(file: &str) -> Ended {
+    match read_cases(file)? {
+        Ok(cases) => Ok((interpret::interpret(&cases) > 0) as i32),
+        Err(status) => Ok(status),
+    }
+}
+
+// compare define FILE [REPOSITORY]
+fn command_define(file: &str, root: Option<&str>) -> Ended {
+    let root = match root {
+        Some(root) => std::path::PathBuf::from(root),
+        None => define::repository()?,
+    };
+    match read_cases(file)? {
+        Ok(cases) => define::define(&cases, &root),
+        Err(status) => Ok(status),
+    }
+}
+
+// compare teeth FILE [NAME..]
+fn command_teeth(file: &str, names: &[&str]) -> Ended {
+    match read_cases(file)? {
+        Ok(cases) => teeth::teeth(&cases, names, &define::repository()?),
+        Err(status) => Ok(status),
+    }
+}
+
+// compare tally FILE [--agreement]
+fn command_tally(file: &str, agreement: bool) -> Ended {
+    let cases = match read_cases(file)? {
+        Ok(cases) => cases,
+        Err(status) => return Ok(status),
+    };
+    let counts = tally::tally(&cases);
+    show(counts.text().as_bytes());
+    if !agreement {
+        return Ok(0);
+    }
+    let missing = counts.missing();
+    for line in &missing {
+        println!("missing: {line}");
+    }
+    if missing.is_empty() {
+        println!("agreement: enough cases of every sort");
+    }
+    Ok(!missing.is_empty() as i32)
+}
+
+// compare list FILE
+fn command_list(file: &str) -> Ended {
+    show(&listing::listing(&read(file)?));
+    Ok(0)
+}
+
+// The table of a script text's file; a wrong text ends with status 1.
+fn read_script(script: &str) -> Result<Result<Vec<u8>, i32>, String> {
+    let bytes = read(script)?;
+    Ok(text::assemble(&bytes).map_err(|wrong| {
+        eprintln!("compare: {script}: byte {}: {}", wrong.at, wrong.what);
+        1
+    }))
+}
+
+// compare session SCRIPT LIMIT INPUT.. [/ CHANGE..]..
+fn command_session(script: &str, limit: &str, rest: &[&str]) -> Ended {
+    let limit: i64 = number(limit, "limit")?;
+    let mut lists = vec![Vec::new()];
+    for word in rest {
+        if *word == "/" {
+            lists.push(Vec::new());
+        } else if let Some(list) = lists.last_mut() {
+            list.push(number::<i64>(word, "number")?);
+        }
+    }
+    let bytes = match read_script(script)? {
+        Ok(bytes) => bytes,
+        Err(status) => return Ok(status),
+    };
+    let variables = bytes[4] as usize;
+    if let Some(list) = lists.iter().find(|list| list.len() != variables) {
+        return Err(format!(
+            "a list of {} numbers, but {variables} variables",
+            list.len()
+        ));
+    }
+    match listing::session(&bytes, limit, &lists[0], &lists[1..]) {
+        Some(session) => {
+            show(&session);
+            Ok(0)
+        }
+        None => Err("a session holds at most 64 change lists".to_string()),
+    }
+}
+
+// compare assemble SCRIPT
+fn command_assemble(script: &str) -> Ended {
+    match read_script(script)? {
+        Ok(bytes) => {
+            println!("{}", hex_of_bytes(&bytes));
+            Ok(0)
+        }
+        Err(status) => Ok(status),
+    }
+}
+
+// compare show HEX
+fn command_show(hex: &str) -> Ended {
+    let bytes = bytes_of_hex(hex)?;
+    match table::check(&bytes) {
+        Ok(table) => {
+            show(text::print(&table).as_bytes());
+            Ok(0)
+        }
+        Err(number) => {
+            eprintln!("compare: the table is refused with {number}");
+            Ok(1)
+        }
+    }
+}
