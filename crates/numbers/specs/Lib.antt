@@ -1,2 +1,4 @@
 pub mod Signed
 pub mod Laws
+pub mod Lay
+pub mod Bounds

@@ -16,3 +16,8 @@ pub mod Answer
 pub mod Published
 pub mod Whole
 pub mod Parts
+pub mod Size
+pub mod Inside
+pub mod Rising
+pub mod Header
+pub mod Variables

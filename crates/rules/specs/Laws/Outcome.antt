@@ -12,6 +12,10 @@ pub data Holds {A : Type 0} (P : A → Type 0) : Outcome A → Type 0 where
   value : {a : A} → P a → Holds P (accepted a)
   vacant : {r : Refusal} → Holds P (refused r)
 
+-- the value first, so that its fact may be searched for
+pub holds-here : {A : Type 0} {P : A → Type 0} (a : A) → P a → Holds P (accepted a)
+holds-here a p = value p
+
 pub holds-bind : {A B : Type 0} {P : A → Type 0} {Q : B → Type 0} (m : Outcome A) (next : A → Outcome B)
     → Holds P m → ((a : A) → P a → Holds Q (next a)) → Holds Q (m >>= next)
 holds-bind m next (value p) step = step _ p

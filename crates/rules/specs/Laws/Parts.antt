@@ -10,14 +10,14 @@ use mathlib.Core.Option.{Option, none, some}
 use mathlib.Core.List.{List, [], _∷_, _++_, append-assoc, append-nil}
 use lib.ListN.{length, getD, take, drop, getElem?, length-append}
 use lib.Seq.{take-append-seam, drop-drop}
-use lib.Dec.{leb, ltb}
-use borrow.Author.Tests.{leb-true, ltb-true}
+use lib.Dec.{leb, ltb, eqb}
+use borrow.Author.Tests.{leb-true, ltb-true, eqb-true}
 use lib.IntN.{ℤ, pos}
-use Rattle.rules.specs.Outcome.{Refusal, Outcome, accepted, refused, _>>=_, need, nodeWrong, tooDeep}
-use Rattle.rules.specs.Value.{Ty, typeOf}
+use Rattle.rules.specs.Outcome.{Refusal, Outcome, accepted, refused, _>>=_, need, headerWrong, nodeWrong, tooDeep}
+use Rattle.rules.specs.Value.{Ty, mostVariables, typeOf}
 use Rattle.rules.specs.Tree.{Operator, Expression, Statement, gives, depth, reads, mentions}
-use Rattle.rules.specs.Laws.Table.{is-type}
-use Rattle.rules.specs.Table.{nodes, nodesAt, typesOf, Node, readNode, constantOf, nodesFrom, isType, checkHeader, checkTypes, typeBytes, children, checkUses, mostDepth, nodesOf, Kind, numberConstant, truthConstant, variable, operator, skip, assign, sequence, if, repeat, kinds, kindOf, Part, expression, statement, asExpression, asStatement, unused, make, makeKind, makeAll, rootOf, Program, check}
+use Rattle.rules.specs.Laws.Table.{is-type, PartTyped, AllTyped, FoundTyped, found-typed, all-typed}
+use Rattle.rules.specs.Table.{u16, headerLength, mostNodes, marked, variables, nodes, nodesAt, total, typesOf, Node, readNode, constantOf, nodesFrom, isType, checkHeader, checkTypes, typeBytes, children, checkUses, mostDepth, nodesOf, Kind, numberConstant, truthConstant, variable, operator, skip, assign, sequence, if, repeat, kinds, kindOf, Part, expression, statement, asExpression, asStatement, unused, make, makeKind, makeAll, rootOf, Program, check}
 use Rattle.rules.specs.Laws.Outcome.{Holds, value, vacant, holds-bind, holds-need, holds-of, holds-if, holds-any, holds-map}
 
 -- ---- what stands at a node
@@ -272,6 +272,49 @@ check-through bytes =
     free′ (accepted u) next h = h
     free′ (refused r) next h = vacant
 
+-- the kind's number tells the kind
+kind-back : (k : Kind) → kindOf (numberOfKind k) ≡ some k
+unfolding kindOf kinds
+kind-back numberConstant = refl
+kind-back truthConstant = refl
+kind-back variable = refl
+kind-back (operator Operator.add) = refl
+kind-back (operator Operator.subtract) = refl
+kind-back (operator Operator.multiply) = refl
+kind-back (operator Operator.greater) = refl
+kind-back (operator Operator.equal) = refl
+kind-back skip = refl
+kind-back assign = refl
+kind-back sequence = refl
+kind-back if = refl
+kind-back repeat = refl
+
+pub kind-injective : (j k : Kind) → numberOfKind j ≡ numberOfKind k → j ≡ k
+kind-injective j k e = some-injective (sym (kind-back j) ∙ ap kindOf e ∙ kind-back k)
+
+-- an accepted header says how long the table is
+header-long : (bytes : List ℕ) → Holds (λ u. length bytes ≡ total bytes) (checkHeader bytes)
+unfolding checkHeader
+header-long bytes =
+    holds-need (leb headerLength (length bytes)) headerWrong _ λ e0.
+    holds-need (marked bytes) headerWrong _ λ e1.
+    holds-need (leb 1 (variables bytes)) headerWrong _ λ e2.
+    holds-need (leb (variables bytes) mostVariables) headerWrong _ λ e3.
+    holds-need (leb 1 (nodes bytes)) headerWrong _ λ e4.
+    holds-need (leb (nodes bytes) mostNodes) headerWrong _ λ e5.
+    holds-need (eqb (u16 bytes 8) headerLength) headerWrong _ λ e6.
+    holds-need (eqb (u16 bytes 10) (nodesAt bytes)) headerWrong _ λ e7.
+    holds-need (eqb (u16 bytes 12) (total bytes)) headerWrong _ λ e8.
+    holds-need (eqb (u16 bytes 14) 0) headerWrong _ λ e9.
+    last (eqb (length bytes) (total bytes)) refl
+  where
+    last : (b : Bool) → eqb (length bytes) (total bytes) ≡ b → Holds (λ u. length bytes ≡ total bytes) (need b headerWrong)
+    last true e = value (eqb-true (length bytes) (total bytes) e)
+    last false e = vacant
+
+header-total : (bytes : List ℕ) → checkHeader bytes ≡ accepted tt → length bytes ≡ total bytes
+header-total bytes e = holds-of (subst (Holds (λ u. length bytes ≡ total bytes)) e (header-long bytes))
+
 module _ (bytes : List ℕ) (p : Program) (checked : check bytes ≡ accepted p) where
   pub through : Through bytes p
   through = holds-of (subst (Holds (Through bytes)) checked (check-through bytes))
@@ -329,3 +372,27 @@ module _ (bytes : List ℕ) (p : Program) (checked : check bytes ≡ accepted p)
   pub child-at : (i c : ℕ) (q : Part) → getElem? (take i (partsOf bytes)) c ≡ some q → (c < i) × (partAt bytes c ≡ some q)
   unfolding partAt
   child-at i c q e = take-found (partsOf bytes) i c q e
+
+  -- a node with this kind's number is built as that kind
+  pub stands-as : (i : ℕ) (q : Part) (k : Kind) → partAt bytes i ≡ some q → nodeAt bytes i .kind ≡ numberOfKind k
+      → Built (typesOf bytes) (take i (partsOf bytes)) i (nodeAt bytes i) k q
+  stands-as i q k e n =
+      let s = stands i q e in
+      subst (λ (j : Kind). Built (typesOf bytes) (take i (partsOf bytes)) i (nodeAt bytes i) j q)
+      (kind-injective (s .kind) k (sym (s .number) ∙ n)) (s .built)
+
+  -- the bytes of a node that has a part are inside the table
+  pub node-inside : (i : ℕ) (q : Part) → partAt bytes i ≡ some q → nodesAt bytes + 8 * i + 8 ≤ length bytes
+  unfolding total
+  node-inside i q e =
+      let below : i < nodes bytes = part-below i q e in
+      let whole : length bytes ≡ nodesAt bytes + 8 * nodes bytes = header-total bytes (through .header) in
+      omega arith
+
+  -- every part is typed
+  pub part-typed : (i : ℕ) (q : Part) → partAt bytes i ≡ some q → PartTyped (typesOf bytes) q
+  unfolding partAt
+  part-typed i q e =
+      let all : AllTyped (typesOf bytes) (partsOf bytes)
+      = holds-of (subst (Holds (AllTyped (typesOf bytes))) (through .parts) (all-typed (typesOf bytes) [] tt (nodesOf bytes))) in
+      subst (FoundTyped (typesOf bytes)) e (found-typed (typesOf bytes) (partsOf bytes) all i)

@@ -57,11 +57,11 @@ abbrev pub AllTyped : List Ty → List Part → Type 0
 AllTyped types [] = Unit {0}
 AllTyped types (p ∷ ps) = PartTyped types p × AllTyped types ps
 
-abbrev FoundTyped : List Ty → Option Part → Type 0
+abbrev pub FoundTyped : List Ty → Option Part → Type 0
 FoundTyped types none = Unit {0}
 FoundTyped types (some p) = PartTyped types p
 
-found-typed : (types : List Ty) (parts : List Part) → AllTyped types parts → (i : ℕ) → FoundTyped types (getElem? parts i)
+pub found-typed : (types : List Ty) (parts : List Part) → AllTyped types parts → (i : ℕ) → FoundTyped types (getElem? parts i)
 found-typed types [] h i = tt
 found-typed types (p ∷ ps) h zero = h .0
 found-typed types (p ∷ ps) h (suc i) = found-typed types ps (h .1) i
