@@ -1,3 +1,4 @@
 // The table's layer: the types that all layers share, the check of a table, and what the layers above read of a checked one.
 pub mod access;
 pub mod answer;
+pub mod mentioned;
