@@ -1,0 +1,72 @@
+-- `run::input::padded` meets its contract. The loop's invariant: the first i values are laid over the zeros.
+-- Assumes nothing.
+use mathlib.Core.Path.{refl, _∙_}
+use Prim.Native.Nat.{_≤_, _-_}
+use native.Mathlib.Omega.{arith}
+use native.Mathlib.Nat.{zero-add}
+use lib.ListN.{length}
+use lib.IntN.{pos}
+use borrow.Author.Needs.{needs}
+use Rattle.rules.specs.Value.{zeros, mostVariables}
+use Rattle.run.proofs.Laying.{Laid, laid-none, laid-by, laid-all, laid-padded}
+use Rattle.run.proofs.input.padded.Statement.{statement}
+use Rattle.run.proofs.input.padded.Tie as tie
+use Rattle.run.proofs.input.padded.Reads as reads
+use Rattle.run.proofs.input.padded.Lts as lts
+
+abbrev Inv-loop : tie.InvT-loop
+Inv-loop inputs values₀ i₀ values i = (i ≤ length inputs) × Laid (zeros mostVariables) 0 inputs i values
+
+abbrev μ-loop : tie.MeasureT-loop
+μ-loop inputs values₀ i₀ values i = length inputs - i
+
+loop-holds : tie.Need-loop-holds Inv-loop μ-loop
+unfolding zeros mostVariables
+loop-holds c = (omega arith, laid-none (zeros mostVariables) 0 (c .args .inputs .now))
+
+mul-values : tie.Need-mul-values Inv-loop μ-loop
+mul-values c = omega arith
+
+shared-slice-copy-out-values : tie.Need-shared-slice-copy-out-values Inv-loop μ-loop
+shared-slice-copy-out-values c = omega arith
+
+mul-values-2 : tie.Need-mul-values-2 Inv-loop μ-loop
+mul-values-2 c = omega arith
+
+array-set-from-values : tie.Need-array-set-from-values Inv-loop μ-loop
+unfolding mostVariables
+array-set-from-values c = omega arith
+
+add-i : tie.Need-add-i Inv-loop μ-loop
+add-i c = omega arith
+
+loop-less : tie.Need-loop-less Inv-loop μ-loop
+loop-less c = omega arith
+
+loop-again : tie.Need-loop-again Inv-loop μ-loop
+loop-again c =
+    let h = c .before .before in
+    let ws = h .before .args .inputs .now in
+    let more = laid-by (zeros mostVariables) 0 ws (h .loop .i) (pos 0) _ (h .loop .inv .1) (omega arith) refl (search needs) refl in
+    (omega arith, rw (zero-add (h .loop .i)) at more)
+
+returns : tie.Need-returns Inv-loop μ-loop
+returns c =
+    let ws = c .before .before .args .inputs .now in
+    laid-all (zeros mostVariables) 0 ws (c .before .loop .i) (c .before .loop .inv .1) (c .loop-test .left) ∙ laid-padded ws (c .before .before .pre)
+
+pub padded-spec : {M : Type 1} → statement M
+padded-spec =
+    tie.close
+    (tie.spec
+    Inv-loop
+    μ-loop
+    loop-holds
+    mul-values
+    shared-slice-copy-out-values
+    mul-values-2
+    array-set-from-values
+    add-i
+    loop-less
+    loop-again
+    returns)

@@ -1,0 +1,6 @@
+// The fresh run: expressions, statements, and the whole call.
+pub mod expression;
+pub mod input;
+pub mod number;
+pub mod statement;
+pub mod words;
