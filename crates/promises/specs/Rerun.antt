@@ -148,6 +148,7 @@ made-is bytes old room le made =
     rw (names .inputs, names .limit, finished bytes old made) (finished-in room old _ (made .is) le)
 
 -- Corollary: a record that an accepted call left is the record of a run on the inputs and limit that it names.
+-- Given by: the table check (the table is accepted), the caller (the record is left; the room holds it).
 pub left-is-run : (bytes : List ℕ) (p : Program) → check bytes ≡ accepted p → (old : List ℤ) → Left bytes old
     → (room : ℕ) → length old ≤ room
     → (Accepted (callRun bytes (inputsOf (p .types) old) (limitOf old) room))

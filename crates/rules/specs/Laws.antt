@@ -21,3 +21,4 @@ pub mod Inside
 pub mod Rising
 pub mod Header
 pub mod Variables
+pub mod Shallow

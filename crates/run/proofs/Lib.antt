@@ -1,6 +1,11 @@
+pub mod Branches
+pub mod Calls
+pub mod Compound
 pub mod Expressions
 pub mod Fitting
 pub mod Laying
 pub mod Listing
+pub mod Loops
 pub mod Numbers
+pub mod Sequences
 pub mod Statements

@@ -43,7 +43,7 @@ use Rattle.run.proofs.Expressions.{Got}
 same-part : {o : Option Part} {p q : Part} → o ≡ some p → o ≡ some q → p ≡ q
 same-part e f = cc
 
-statement-of : {s t : Statement} → statement s ≡ statement t → s ≡ t
+pub statement-of : {s t : Statement} → statement s ≡ statement t → s ≡ t
 statement-of e = cc
 
 module _ (bytes : List ℕ) (base : ℕ) (lists : List ℕ) (node : ℕ) (values : List ℤ) (k : Known bytes base lists node values) where
@@ -56,7 +56,7 @@ module _ (bytes : List ℕ) (base : ℕ) (lists : List ℕ) (node : ℕ) (values
   unfolding nodeAt
   read-field f e = e ∙ ap (λ (b : ℕ). f (readNode (drop (b + 8 * node) bytes))) based
 
-  built : (kd : Kind) → nodeAt bytes node .kind ≡ numberOfKind kd → Built (typesOf bytes) (take node (partsOf bytes)) node (nodeAt bytes node) kd (statement tree)
+  pub built : (kd : Kind) → nodeAt bytes node .kind ≡ numberOfKind kd → Built (typesOf bytes) (take node (partsOf bytes)) node (nodeAt bytes node) kd (statement tree)
   built kd e = stands-as bytes program checked node (statement tree) kd here e
 
   -- what holds of the node's tree holds of each statement of the node
@@ -109,7 +109,7 @@ pub record RunGot (m : Paper.Outcome Done) (r : Ran) (out : List ℤ) (left at :
   pub comes : m ≡ accepted done
   pub ended : EndedAs done r out left at after
 
-accepted-refused : {q : Refusal} → Accepted ≡ Refused q → ⊥
+pub accepted-refused : {q : Refusal} → Accepted ≡ Refused q → ⊥
 accepted-refused e = let z : _≡_ {A = ℕ} 0 1 = cc in omega arith
 
 pub run-got : (m : Paper.Outcome Done) (r : Ran) (out : List ℤ) (left at : ℕ) (after : List ℤ) → RanAs m r out left at after → r .outcome ≡ Accepted → RunGot m r out left at after
@@ -150,6 +150,12 @@ child-evaluable bytes base lists node values k child t e here at few near =
       good = k .fine .good;
       near = near′;
     }
+
+-- and its record is short
+pub record-short : (values : List ℤ) (e : Expression) → fewOperators e → (x : Valued) → evaluate e values ≡ accepted x → length (x .words) < 33_554_432
+record-short values e few x comes =
+    let size : length (x .words) ≡ 2 * operations e = holds-of (subst (Holds (λ y. length (y .words) ≡ 2 * operations e)) comes (record-size e values)) in
+    omega arith
 
 pub record AsAssign (bytes : List ℕ) (node : ℕ) (tree : Statement) : Type 0 where
   pub e : Expression

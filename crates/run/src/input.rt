@@ -2,7 +2,7 @@
 ghost use mathlib.Core.Path.{_≡_};
 ghost use mathlib.Core.Bool.{true};
 ghost use Prim.Native.Nat.{_≤_};
-ghost use lib.ListN.{length};
+ghost use lib.ListN.{length, take};
 ghost use lib.IntN.{pos, natAbs};
 ghost use Rattle.numbers.specs.Signed.{between};
 ghost use Rattle.rules.specs.Value.{mostVariables, inType, padded, fit};
@@ -50,15 +50,15 @@ pub fn fits(t: &[u8], inputs: &[i64]) -> bool
     true
 }
 
-// The store that these values make: zero from their count on.
-pub fn padded(inputs: &[i64]) -> Store
-    requires { ⌜ length (now inputs) ≤ mostVariables ⌝ }
-    ensures { λ r. ⌜ r .values ≡ padded (now (inputs .entry)) ⌝ }
+// The store that the first n of these words make: zero from there on.
+pub fn padded(words: &[i64], n: usize) -> Store
+    requires { ⌜ (n ≤ length (now words)) × (n ≤ mostVariables) ⌝ }
+    ensures { λ r. ⌜ r .values ≡ padded (take n (now (words .entry))) ⌝ }
 {
     let mut values = [0i64; 32];
     let mut i = 0;
-    while i < inputs.len() {
-        values[i] = inputs[i];
+    while i < n {
+        values[i] = words[i];
         i += 1;
     }
     Store { values }

@@ -1,4 +1,5 @@
 // The fresh run: expressions, statements, and the whole call.
+pub mod call;
 pub mod expression;
 pub mod input;
 pub mod number;

@@ -1,4 +1,8 @@
 pub mod Paper
+pub mod Sorts
+pub mod Told
+pub mod Uses
+pub mod Laws
 pub mod Lists
 pub mod Accepted
 pub mod Rows

@@ -1,0 +1,9 @@
+pub mod Lists
+pub mod Nodes
+pub mod Sorts
+pub mod Made
+pub mod Tests
+pub mod Types
+pub mod Reached
+pub mod Uses
+pub mod Check
