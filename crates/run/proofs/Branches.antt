@@ -20,7 +20,7 @@ use Rattle.rules.specs.Tree.{Expression, Statement, mentions}
 use Rattle.rules.specs.Table.{Kind, typesOf, Part, expression, statement}
 use Rattle.rules.specs.Run.{Valued, Done, evaluate, holds, ifWords, run}
 use Rattle.rules.specs.Laws.Store.{length-snapshot}
-use Rattle.rules.specs.Laws.Parts.{nodeAt, partAt, child-at}
+use Rattle.rules.specs.Laws.Parts.{statement-of, nodeAt, partAt, child-at}
 use Rattle.rules.specs.Laws.Size.{weight, fewOperators, Small}
 use Rattle.rules.specs.Laws.Inside.{inside}
 use Rattle.table.specs.Lists.{listAt}
@@ -33,7 +33,7 @@ use Rattle.run.specs.Code.{farthest, EvaluatedAs, Evaluable}
 use Rattle.run.specs.Words.{Listed}
 use Rattle.run.specs.Statement.{EndedAs, RanAs, RunsTo, PartsTo, TakenAs, TookAs, TakesTo, Known, Runnable, Inner, Enterable, Takeable}
 use Rattle.run.proofs.Expressions.{Got}
-use Rattle.run.proofs.Statements.{statement-of, built, for-statement, list-is, listed-at, evaluation-refused, child-evaluable, record-short, accepted-refused, RunGot, run-got}
+use Rattle.run.proofs.Statements.{built, for-statement, list-is, listed-at, evaluation-refused, child-evaluable, record-short, accepted-refused, RunGot, run-got}
 use Rattle.run.proofs.Sequences.{child-known}
 
 -- ---- the words of an if, whatever the order they are laid in

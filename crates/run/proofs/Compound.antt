@@ -20,7 +20,7 @@ use Rattle.rules.specs.Tree.{Expression, Statement, nodeOf, mentions}
 use Rattle.rules.specs.Table.{Node, readNode, Kind, numberConstant, truthConstant, variable, operator, skip, assign, sequence, if, repeat, typesOf, Part, expression, statement}
 use Rattle.rules.specs.Run.{Valued, Done, evaluate, entry, enter, holds, times, iterate, ifWords, repeatWords, run}
 use Rattle.rules.specs.Laws.Mentions.{_⊆_, sequence-first, sequence-second, if-then, if-else, repeat-body}
-use Rattle.rules.specs.Laws.Parts.{numberOfKind, nodeAt, partAt, partsOf, Built, Stands, stands, child-at}
+use Rattle.rules.specs.Laws.Parts.{no-expression, statement-of, numberOfKind, nodeAt, partAt, partsOf, Built, Stands, stands, child-at}
 use Rattle.rules.specs.Laws.Size.{weight, fewOperators, Small}
 use Rattle.rules.specs.Laws.Entry.{Fine, run-dry}
 use Rattle.rules.specs.Laws.Inside.{inside, run-inside}
@@ -30,12 +30,9 @@ use Rattle.table.specs.declared.answer.Outcome.the-variants.{Accepted, Refused}
 use Rattle.run.specs.declared.statement.Ran.{Ran}
 use Rattle.run.specs.Code.{farthest, Evaluable}
 use Rattle.run.specs.Statement.{EndedAs, RanAs, RunsTo, PartsTo, Opened, Known, Runnable, Inner, Enterable}
-use Rattle.run.proofs.Statements.{statement-of, built, for-statement, listed-at, bounded, RunGot, run-got, run-refused}
+use Rattle.run.proofs.Statements.{built, for-statement, listed-at, bounded, RunGot, run-got, run-refused}
 
 -- ---- a statement's kind and node
-
-no-expression : {t : Ty} {e : Expression} {s : Statement} → statement s ≡ expression t e → ⊥
-no-expression p = let q : _≡_ {A = ℕ} 0 1 = cc in omega arith
 
 module _ (bytes : List ℕ) (base : ℕ) (lists : List ℕ) (node : ℕ) (values : List ℤ) (k : Known bytes base lists node values) where
   open Known k using (program, checked, tree, here)

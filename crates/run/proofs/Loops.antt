@@ -18,7 +18,7 @@ use Rattle.rules.specs.Table.{Kind, typesOf, Part, expression, statement}
 use Rattle.rules.specs.Run.{Valued, Done, evaluate, times, iterate, repeatWords, run}
 use Rattle.rules.specs.Laws.Mentions.{_⊆_, repeat-body}
 use Rattle.rules.specs.Laws.Store.{length-snapshot}
-use Rattle.rules.specs.Laws.Parts.{nodeAt, partAt, child-at}
+use Rattle.rules.specs.Laws.Parts.{statement-of, nodeAt, partAt, child-at}
 use Rattle.rules.specs.Laws.Size.{weight, fewOperators, Small}
 use Rattle.rules.specs.Laws.Entry.{Fine}
 use Rattle.rules.specs.Laws.Inside.{inside}
@@ -32,7 +32,7 @@ use Rattle.run.specs.Code.{farthest, EvaluatedAs, Evaluable}
 use Rattle.run.specs.Words.{Listed}
 use Rattle.run.specs.Statement.{EndedAs, RanAs, RunsTo, PartsTo, RepeatsTo, Known, Runnable, Inner, Enterable, Repeatable}
 use Rattle.run.proofs.Expressions.{Got}
-use Rattle.run.proofs.Statements.{statement-of, built, for-statement, list-is, listed-at, still-fine, bounded, evaluation-refused, child-evaluable, record-short, accepted-refused, RunGot, run-got}
+use Rattle.run.proofs.Statements.{built, for-statement, list-is, listed-at, still-fine, bounded, evaluation-refused, child-evaluable, record-short, accepted-refused, RunGot, run-got}
 use Rattle.run.proofs.Listing.{list-long}
 use Rattle.run.proofs.Sequences.{follow, both, child-known}
 

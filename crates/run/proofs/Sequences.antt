@@ -14,7 +14,7 @@ use Rattle.rules.specs.Outcome as Paper
 use Rattle.rules.specs.Tree.{Statement}
 use Rattle.rules.specs.Table.{Kind, typesOf, statement}
 use Rattle.rules.specs.Run.{Done, run}
-use Rattle.rules.specs.Laws.Parts.{nodeAt, partAt, child-at}
+use Rattle.rules.specs.Laws.Parts.{statement-of, nodeAt, partAt, child-at}
 use Rattle.rules.specs.Laws.Size.{weight, Small}
 use Rattle.rules.specs.Laws.Entry.{Fine}
 use Rattle.rules.specs.Laws.Inside.{inside}
@@ -23,7 +23,7 @@ use Rattle.table.specs.declared.answer.Outcome.the-variants.{Accepted, Refused}
 use Rattle.run.specs.declared.statement.Ran.{Ran}
 use Rattle.run.specs.Code.{farthest}
 use Rattle.run.specs.Statement.{EndedAs, RanAs, RunsTo, PartsTo, Known, Runnable, Inner, Enterable}
-use Rattle.run.proofs.Statements.{statement-of, built, for-statement, still-fine, bounded, RunGot, run-got, run-refused}
+use Rattle.run.proofs.Statements.{built, for-statement, still-fine, bounded, RunGot, run-got, run-refused}
 
 -- ---- one run behind another
 

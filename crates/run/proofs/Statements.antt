@@ -19,7 +19,7 @@ use Rattle.rules.specs.Tree.{Expression, Statement, nodeOf, mentions}
 use Rattle.rules.specs.Table.{Node, readNode, Kind, skip, assign, sequence, if, repeat, nodesAt, typesOf, Part, expression, statement, Program, check}
 use Rattle.rules.specs.Run.{Valued, Done, evaluate, entry, enter, holds, times, iterate, run}
 use Rattle.rules.specs.Laws.Outcome.{Holds, holds-of}
-use Rattle.rules.specs.Laws.Parts.{numberOfKind, nodeAt, partAt, partsOf, Built, Through, through, stands-as, node-inside, child-at, part-typed}
+use Rattle.rules.specs.Laws.Parts.{statement-of, numberOfKind, nodeAt, partAt, partsOf, Built, Through, through, stands-as, node-inside, child-at, part-typed}
 use Rattle.rules.specs.Laws.Size.{operations, record-size, weight, fewOperators, Small, words-bounded}
 use Rattle.rules.specs.Laws.Store.{Good}
 use Rattle.rules.specs.Laws.Typed.{Typed, Kept, run-keeps}
@@ -42,9 +42,6 @@ use Rattle.run.proofs.Expressions.{Got}
 
 same-part : {o : Option Part} {p q : Part} → o ≡ some p → o ≡ some q → p ≡ q
 same-part e f = cc
-
-pub statement-of : {s t : Statement} → statement s ≡ statement t → s ≡ t
-statement-of e = cc
 
 module _ (bytes : List ℕ) (base : ℕ) (lists : List ℕ) (node : ℕ) (values : List ℤ) (k : Known bytes base lists node values) where
   open Known k using (program, checked, based, listed, tree, here, small, fine)

@@ -144,6 +144,12 @@ kind-number (suc (suc (suc (suc (suc (suc (suc (suc (suc (suc (suc (suc (suc (su
 
 -- ---- what a node of each kind is made of
 
+pub no-expression : {t : Ty} {e : Expression} {s : Statement} → statement s ≡ expression t e → ⊥
+no-expression p = let q : _≡_ {A = ℕ} 0 1 = cc in omega arith
+
+pub statement-of : {s t : Statement} → statement s ≡ statement t → s ≡ t
+statement-of e = cc
+
 found-statement : (o : Option Part) → Holds (λ s. o ≡ some (statement s)) (asStatement o)
 unfolding asStatement
 found-statement none = vacant

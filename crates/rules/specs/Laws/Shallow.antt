@@ -14,7 +14,7 @@ use Rattle.rules.specs.Value.{Ty, mostVariables}
 use Rattle.rules.specs.Tree.{Expression, Statement, depthOf, depth, mentions}
 use Rattle.rules.specs.Table.{nodes, Kind, numberConstant, truthConstant, variable, operator, skip, assign, sequence, if, repeat, typesOf, typeBytes, nodesOf, checkHeader, checkTypes, checkUses, children, mostDepth, makeAll, asStatement, rootOf, Part, expression, statement, Program, check}
 use Rattle.rules.specs.Laws.Outcome.{Holds, value, holds-bind, holds-need, holds-of, holds-any}
-use Rattle.rules.specs.Laws.Parts.{partAt, partsOf, nodeAt, Built, Stands, stands, child-at, root-at}
+use Rattle.rules.specs.Laws.Parts.{no-expression, statement-of, partAt, partsOf, nodeAt, Built, Stands, stands, child-at, root-at}
 use Rattle.rules.specs.Laws.Size.{operations, fewOperators, Small}
 use Rattle.rules.specs.Laws.Rising.{rises-short}
 use Rattle.rules.specs.Laws.Header.{sized, types-long}
@@ -60,12 +60,6 @@ check-shallow bytes =
 
 -- ---- every statement of the tree
 
-no-expression : {t : Ty} {e : Expression} {s : Statement} → statement s ≡ expression t e → ⊥
-no-expression p = let q : _≡_ {A = ℕ} 0 1 = cc in omega arith
-
-same : {s t : Statement} → statement s ≡ statement t → s ≡ t
-same e = cc
-
 module _ (bytes : List ℕ) (p : Program) (checked : check bytes ≡ accepted p) where
   narrow : (i : ℕ) (s : Statement) → partAt bytes i ≡ some (statement s) → length (mentions s) ≤ 32
   narrow i s here = omega (arith, rises-short (length (typesOf bytes)) (mentions s) (rises-at bytes p checked i (statement s) here), types-long bytes p checked, sized bytes p checked .few)
@@ -81,21 +75,21 @@ module _ (bytes : List ℕ) (p : Program) (checked : check bytes ≡ accepted p)
     small-built s here h truthConstant b = absurd (no-expression (b .0))
     small-built s here h variable b = absurd (no-expression (b .0))
     small-built s here h (operator o) b = absurd (no-expression (b .2))
-    small-built s here h skip b = subst Small (sym (same b)) tt
+    small-built s here h skip b = subst Small (sym (statement-of b)) tt
     small-built s here h assign b =
-        let d : suc (depthOf (b .0)) ≤ 24 = subst (λ (t : Statement). depth t ≤ 24) (same (b .1)) h in
-        subst Small (sym (same (b .1))) (few (b .0) (omega arith))
+        let d : suc (depthOf (b .0)) ≤ 24 = subst (λ (t : Statement). depth t ≤ 24) (statement-of (b .1)) h in
+        subst Small (sym (statement-of (b .1))) (few (b .0) (omega arith))
     small-built s here h sequence b =
-        let d : suc (max (depth (b .0)) (depth (b .1))) ≤ 24 = subst (λ (t : Statement). depth t ≤ 24) (same (b .2)) h in
-        subst Small (sym (same (b .2))) (child _ (b .0) (b .3) (omega arith), child _ (b .1) (b .4) (omega arith))
+        let d : suc (max (depth (b .0)) (depth (b .1))) ≤ 24 = subst (λ (t : Statement). depth t ≤ 24) (statement-of (b .2)) h in
+        subst Small (sym (statement-of (b .2))) (child _ (b .0) (b .3) (omega arith), child _ (b .1) (b .4) (omega arith))
     small-built s here h if b =
-        let d : suc (max (depthOf (b .0)) (max (depth (b .1)) (depth (b .2)))) ≤ 24 = subst (λ (t : Statement). depth t ≤ 24) (same (b .3)) h in
-        let n : length (mentions (Statement.if i (b .0) (b .1) (b .2))) ≤ 32 = subst (λ (t : Statement). length (mentions t) ≤ 32) (same (b .3)) (narrow i s here) in
-        subst Small (sym (same (b .3))) (few (b .0) (omega arith), n, child _ (b .1) (b .5) (omega arith), child _ (b .2) (b .6) (omega arith))
+        let d : suc (max (depthOf (b .0)) (max (depth (b .1)) (depth (b .2)))) ≤ 24 = subst (λ (t : Statement). depth t ≤ 24) (statement-of (b .3)) h in
+        let n : length (mentions (Statement.if i (b .0) (b .1) (b .2))) ≤ 32 = subst (λ (t : Statement). length (mentions t) ≤ 32) (statement-of (b .3)) (narrow i s here) in
+        subst Small (sym (statement-of (b .3))) (few (b .0) (omega arith), n, child _ (b .1) (b .5) (omega arith), child _ (b .2) (b .6) (omega arith))
     small-built s here h repeat b =
-        let d : suc (max (depthOf (b .0)) (depth (b .1))) ≤ 24 = subst (λ (t : Statement). depth t ≤ 24) (same (b .2)) h in
-        let n : length (mentions (Statement.repeat i (b .0) (b .1))) ≤ 32 = subst (λ (t : Statement). length (mentions t) ≤ 32) (same (b .2)) (narrow i s here) in
-        subst Small (sym (same (b .2))) (few (b .0) (omega arith), n, child _ (b .1) (b .4) (omega arith))
+        let d : suc (max (depthOf (b .0)) (depth (b .1))) ≤ 24 = subst (λ (t : Statement). depth t ≤ 24) (statement-of (b .2)) h in
+        let n : length (mentions (Statement.repeat i (b .0) (b .1))) ≤ 32 = subst (λ (t : Statement). length (mentions t) ≤ 32) (statement-of (b .2)) (narrow i s here) in
+        subst Small (sym (statement-of (b .2))) (few (b .0) (omega arith), n, child _ (b .1) (b .4) (omega arith))
 
   small-up : (n i : ℕ) (s : Statement) → i < n → partAt bytes i ≡ some (statement s) → depth s ≤ 24 → Small s
   small-up zero i s h here d = absurd (omega arith)
