@@ -8,6 +8,9 @@
 
 use crate::answer::Answer;
 
+/// How many words an answer has.
+const ANSWER: usize = 70;
+
 /// One case with the answer it expects.
 #[derive(Clone, Debug, PartialEq, Eq)]
 pub enum Case {
@@ -29,6 +32,45 @@ pub enum Case {
         answer: Answer,
         words: Vec<i64>,
     },
+}
+
+impl Case {
+    // The words that a case expects: a table's number, or the 70 words of an
+    // answer and then the buffer's.
+    pub fn expected(&self) -> Vec<i64> {
+        match self {
+            Case::Table { number, .. } => vec![*number],
+            Case::Run { answer, words, .. } | Case::Patch { answer, words, .. } => {
+                let mut all = answer.words();
+                all.extend_from_slice(words);
+                all
+            }
+        }
+    }
+
+    // How other words differ from those that a case expects, if they do.
+    pub fn difference(&self, words: &[i64]) -> Option<String> {
+        let expected = self.expected();
+        for (at, (theirs, ours)) in expected.iter().zip(words).enumerate() {
+            if theirs != ours {
+                let name = word_name(at);
+                return Some(format!("{name} {theirs} in the file, {ours} here"));
+            }
+        }
+        if expected.len() == words.len() {
+            return None;
+        }
+        let (theirs, ours) = (expected.len(), words.len());
+        Some(format!("{theirs} words in the file, {ours} here"))
+    }
+}
+
+// The name of one of the words that a case expects.
+fn word_name(at: usize) -> String {
+    match at.checked_sub(ANSWER) {
+        None => Answer::name(at),
+        Some(at) => format!("buffer word {at}:"),
+    }
 }
 
 /// The words of a line being read.
@@ -171,7 +213,7 @@ impl<'a> Words<'a> {
     fn outcome(&mut self) -> Result<(Answer, Vec<i64>), String> {
         let room = self.number("the room")?;
         self.mark("=")?;
-        let words = self.numbers(70, "answer words")?;
+        let words = self.numbers(ANSWER as i64, "answer words")?;
         let answer = Answer::from_words(&words).ok_or("no answer")?;
         if !(0..=12).contains(&answer.number) {
             return Err(format!("{} is no refusal number", answer.number));
@@ -212,55 +254,55 @@ pub fn hex_of_bytes(bytes: &[u8]) -> String {
 // A count of words and the words, each with a space before it.
 fn print_list(line: &mut String, words: &[i64]) {
     line.push_str(&format!(" {}", words.len()));
-    print_words(line, words);
-}
-
-// Words, each with a space before it.
-fn print_words(line: &mut String, words: &[i64]) {
     for word in words {
-        line.push(' ');
-        line.push_str(&word.to_string());
+        line.push_str(&format!(" {word}"));
     }
-}
-
-// The room, the answer and the words of the buffer.
-fn print_outcome(line: &mut String, answer: &Answer, words: &[i64]) {
-    line.push_str(&format!(" {} =", words.len()));
-    print_words(line, &answer.words());
-    line.push_str(" :");
-    print_words(line, words);
 }
 
 // The line of a case, without its line end.
 pub fn print(case: &Case) -> String {
+    format!("{} = {}", print_call(case), print_answer(case))
+}
+
+// A line up to its `=`: what is called.
+pub fn print_call(case: &Case) -> String {
     let mut line = String::new();
     match case {
-        Case::Table { table, number } => {
-            line = format!("table {} = {number}", hex_of_bytes(table));
+        Case::Table { table, .. } => {
+            line.push_str(&format!("table {}", hex_of_bytes(table)));
         }
         Case::Run {
             table,
             limit,
             inputs,
-            answer,
             words,
+            ..
         } => {
             line.push_str(&format!("run {} {limit}", hex_of_bytes(table)));
             print_list(&mut line, inputs);
-            print_outcome(&mut line, answer, words);
+            line.push_str(&format!(" {}", words.len()));
         }
         Case::Patch {
             table,
             old,
             changes,
-            answer,
             words,
+            ..
         } => {
             line.push_str(&format!("patch {}", hex_of_bytes(table)));
             print_list(&mut line, old);
             print_list(&mut line, changes);
-            print_outcome(&mut line, answer, words);
+            line.push_str(&format!(" {}", words.len()));
         }
     }
     line
+}
+
+// A line behind its `=`: what is answered.
+pub fn print_answer(case: &Case) -> String {
+    let mut texts: Vec<String> = case.expected().iter().map(i64::to_string).collect();
+    if texts.len() >= ANSWER {
+        texts.insert(ANSWER, ":".to_string());
+    }
+    texts.join(" ")
 }

@@ -1,7 +1,6 @@
 //! Holding the definitions to a case file: each case becomes a theorem that
 //! is proved by computing it, in a scratch repository outside this one.
 
-use crate::answer::Answer;
 use crate::case::Case;
 use std::collections::BTreeSet;
 use std::fmt::Write as _;
@@ -190,42 +189,35 @@ fn theorem(text: &mut String, number: usize, case: &Case) {
             table,
             limit,
             inputs,
-            answer,
             words,
+            ..
         } => format!(
             "flat (callRun ({}) ({}) ({}) {}) ≡ {}",
             bytes(table),
             list(inputs),
             integer(*limit),
             words.len(),
-            expected(answer, words)
+            list(&case.expected())
         ),
         Case::Patch {
             table,
             old,
             changes,
-            answer,
             words,
+            ..
         } => format!(
             "flat (callPatch ({}) ({}) ({}) {}) ≡ {}",
             bytes(table),
             list(old),
             list(changes),
             words.len(),
-            expected(answer, words)
+            list(&case.expected())
         ),
     };
     let _ = writeln!(
         text,
         "\ncase-{number} : {statement}\nunfolding computing flat\ncase-{number} = refl"
     );
-}
-
-// The answer's words and the buffer's, as one list.
-fn expected(answer: &Answer, words: &[i64]) -> String {
-    let mut all = answer.words();
-    all.extend_from_slice(words);
-    list(&all)
 }
 
 // Words as a list of integers.

@@ -45,6 +45,29 @@ enum Group {
     Damaged,
 }
 
+/// The sorts of cases, by their calls.
+#[derive(Clone, Copy, Debug, PartialEq, Eq)]
+pub enum Sort {
+    Table,
+    Run,
+    Patch,
+}
+
+impl Sort {
+    /// All sorts.
+    pub const ALL: [Sort; 3] = [Sort::Table, Sort::Run, Sort::Patch];
+
+    // The sort of this name in the case format, if there is one.
+    pub fn named(name: &str) -> Option<Sort> {
+        match name {
+            "table" => Some(Sort::Table),
+            "run" => Some(Sort::Run),
+            "patch" => Some(Sort::Patch),
+            _ => None,
+        }
+    }
+}
+
 /// An accepted run and what it is of.
 pub struct Session {
     pub bytes: Vec<u8>,
@@ -58,6 +81,7 @@ pub struct Session {
 /// A generator: its source, and the aims of each group in turn.
 pub struct Generator {
     pub random: Random,
+    sorts: Vec<Sort>,
     deck: Vec<Group>,
     turn: [usize; 4],
 }
@@ -365,25 +389,34 @@ fn aims(group: Group) -> Vec<Aim> {
 }
 
 impl Generator {
-    // A generator from a seed.
+    // A generator of cases of all sorts from a seed.
     pub fn new(seed: u64) -> Generator {
+        Generator::of(seed, &Sort::ALL)
+    }
+
+    // A generator of cases of some sorts from a seed.
+    pub fn of(seed: u64, sorts: &[Sort]) -> Generator {
         Generator {
             random: Random::new(seed),
+            sorts: sorts.to_vec(),
             deck: Vec::new(),
             turn: [0; 4],
         }
     }
 
-    // The next case: groups from a mixed deck of a hundred, aims in turn.
+    // The next case: groups from a mixed deck of a hundred, or as many of them as
+    // are of the sorts, aims in turn.
     pub fn case(&mut self) -> Case {
         if self.deck.is_empty() {
-            for (group, count) in [
-                (Group::Table, 20),
-                (Group::Run, 25),
-                (Group::Left, 22),
-                (Group::Damaged, 33),
+            for (sort, group, count) in [
+                (Sort::Table, Group::Table, 20),
+                (Sort::Run, Group::Run, 25),
+                (Sort::Patch, Group::Left, 22),
+                (Sort::Patch, Group::Damaged, 33),
             ] {
-                self.deck.extend(vec![group; count]);
+                if self.sorts.contains(&sort) {
+                    self.deck.extend(vec![group; count]);
+                }
             }
             self.random.shuffle(&mut self.deck);
         }

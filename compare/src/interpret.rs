@@ -1,6 +1,5 @@
 //! Holding the interpreter to the cases of a file.
 
-use crate::answer::Answer;
 use crate::case::Case;
 use crate::patch::patch;
 use crate::run::run;
@@ -41,55 +40,7 @@ pub fn answered(case: &Case) -> Case {
 
 // How the interpreter's answer differs from a case's, if it does.
 pub fn difference(case: &Case) -> Option<String> {
-    match (case, &answered(case)) {
-        (Case::Table { number, .. }, Case::Table { number: own, .. }) => {
-            if number == own {
-                None
-            } else {
-                Some(format!("number {number} in the file, {own} here"))
-            }
-        }
-        (
-            Case::Run { answer, words, .. },
-            Case::Run {
-                answer: own,
-                words: buffer,
-                ..
-            },
-        )
-        | (
-            Case::Patch { answer, words, .. },
-            Case::Patch {
-                answer: own,
-                words: buffer,
-                ..
-            },
-        ) => outcome_difference(answer, words, own, buffer),
-        _ => Some("another kind of case".to_string()),
-    }
-}
-
-// How an answer and buffer differ from the interpreter's, if they do.
-fn outcome_difference(
-    answer: &Answer,
-    words: &[i64],
-    own: &Answer,
-    buffer: &[i64],
-) -> Option<String> {
-    for (at, (theirs, ours)) in answer.words().iter().zip(own.words()).enumerate() {
-        if *theirs != ours {
-            let name = Answer::name(at);
-            return Some(format!("{name} {theirs} in the file, {ours} here"));
-        }
-    }
-    for (at, (theirs, ours)) in words.iter().zip(buffer).enumerate() {
-        if theirs != ours {
-            return Some(format!(
-                "buffer word {at}: {theirs} in the file, {ours} here"
-            ));
-        }
-    }
-    None
+    case.difference(&answered(case).expected())
 }
 
 // Hold the interpreter to cases, printing each that fails; gives how many do.

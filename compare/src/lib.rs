@@ -1,10 +1,12 @@
 //! An independent interpreter of document 01: table check, run, patch and
-//! listing, and the cases on which it is compared with the definitions.
+//! listing, and the cases on which it is compared with the definitions and
+//! with the product.
 
 pub mod answer;
 pub mod case;
 pub mod damage;
 pub mod define;
+pub mod execute;
 pub mod generate;
 pub mod interpret;
 pub mod listing;

@@ -1,16 +1,25 @@
 //! The commands of `compare`.
 
 use compare::case::{bytes_of_hex, hex_of_bytes, parse_file, print, Case};
-use compare::{define, generate, interpret, listing, table, tally, teeth, text};
+use compare::{define, execute, generate, interpret, listing, table, tally, teeth, text};
 use std::io::{Read, Write};
 
 const HELP: &str = "compare: an independent interpreter, and the cases it is compared on
 
-  compare generate SEED COUNT    write COUNT cases with the interpreter's answers
+  compare generate SEED COUNT [SORT..]
+                                 write COUNT cases with the interpreter's
+                                 answers, of the sorts table, run and patch, or
+                                 of the named ones
   compare interpret FILE         hold the interpreter to the cases of a file
   compare define FILE [REPOSITORY]
                                  hold the definitions of this repository, or of
                                  another copy of it, to the cases of a file
+  compare execute FILE [PROGRAM]
+                                 hold the product to the tables and runs of a
+                                 file, by the program calls of this repository,
+                                 which rt builds, or by another
+  compare stream FILE            write the tables and runs of a file as the
+                                 bytes that the program calls reads
   compare teeth FILE [NAME..]    try the named wrong edits of the definitions, or
                                  all: the cases of a file or the marked cases
                                  must catch each
@@ -41,10 +50,13 @@ fn main() {
             show(HELP.as_bytes());
             Ok(0)
         }
-        ["generate", seed, count] => command_generate(seed, count),
+        ["generate", seed, count, sorts @ ..] => command_generate(seed, count, sorts),
         ["interpret", file] => command_interpret(file),
         ["define", file] => command_define(file, None),
         ["define", file, root] => command_define(file, Some(root)),
+        ["execute", file] => command_execute(file, None),
+        ["execute", file, program] => command_execute(file, Some(program)),
+        ["stream", file] => command_stream(file),
         ["teeth", file, names @ ..] => command_teeth(file, names),
         ["tally", file] => command_tally(file, false),
         ["tally", file, "--agreement"] => command_tally(file, true),
@@ -99,11 +111,18 @@ fn number<T: std::str::FromStr>(word: &str, what: &str) -> Result<T, String> {
     word.parse().map_err(|_| format!("`{word}` is no {what}"))
 }
 
-// compare generate SEED COUNT
-fn command_generate(seed: &str, count: &str) -> Ended {
+// compare generate SEED COUNT [SORT..]
+fn command_generate(seed: &str, count: &str, sorts: &[&str]) -> Ended {
     let seed: u64 = number(seed, "seed")?;
     let count: usize = number(count, "count")?;
-    let mut generator = generate::Generator::new(seed);
+    let mut named = Vec::new();
+    for sort in sorts {
+        named.push(generate::Sort::named(sort).ok_or(format!("`{sort}` is no sort of case"))?);
+    }
+    if named.is_empty() {
+        named.extend(generate::Sort::ALL);
+    }
+    let mut generator = generate::Generator::of(seed, &named);
     for _ in 0..count {
         let line = print(&generator.case()) + "\n";
         show(line.as_bytes());
@@ -127,6 +146,29 @@ fn command_define(file: &str, root: Option<&str>) -> Ended {
     };
     match read_cases(file)? {
         Ok(cases) => define::define(&cases, &root),
+        Err(status) => Ok(status),
+    }
+}
+
+// compare execute FILE [PROGRAM]
+fn command_execute(file: &str, program: Option<&str>) -> Ended {
+    let program = match program {
+        Some(program) => std::path::PathBuf::from(program),
+        None => define::repository()?.join("target/bin/calls"),
+    };
+    match read_cases(file)? {
+        Ok(cases) => execute::execute(&cases, &program),
+        Err(status) => Ok(status),
+    }
+}
+
+// compare stream FILE
+fn command_stream(file: &str) -> Ended {
+    match read_cases(file)? {
+        Ok(cases) => {
+            show(&execute::stream(&cases));
+            Ok(0)
+        }
         Err(status) => Ok(status),
     }
 }
