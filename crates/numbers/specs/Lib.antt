@@ -1,4 +1,5 @@
-pub mod Signed
+pub mod Bounds
 pub mod Laws
 pub mod Lay
-pub mod Bounds
+pub mod Measured
+pub mod Signed

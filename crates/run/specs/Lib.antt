@@ -1,4 +1,5 @@
 pub mod Call
 pub mod Code
+pub mod Laws
 pub mod Statement
 pub mod Words

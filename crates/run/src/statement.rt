@@ -22,12 +22,13 @@ ghost use Rattle.rules.specs.Run.{holds};
 ghost use Rattle.run.specs.Code.{farthest};
 ghost use Rattle.run.specs.Statement.{Runnable, Inner, Enterable, Takeable, Repeatable, RunsTo, PartsTo, TakesTo, RepeatsTo, Opened};
 
-// Where a run of a statement has come to: its outcome, the store, the steps that are left and the place behind its words.
+// Where a run of a statement has come to: the store, the steps that are left, the place behind its words, and its outcome; this comes
+// last, so that the array begins on a whole word.
 pub struct Ran {
-    pub outcome: Outcome,
     pub store: Store,
     pub left: usize,
     pub at: usize,
+    pub outcome: Outcome,
 }
 
 // Lays down an entry's three opening words.

@@ -1,122 +1,101 @@
 -- `run::call::start` meets its contract: the root's run goes on from the inputs; its outcome and the room decide the answer.
 -- Assumes nothing.
-use mathlib.Core.Path.{_≡_, ap, _∙_}
-use Prim.Native.Nat.{ℕ, _+_, _-_, _*_}
+use mathlib.Core.Path.{ap, _∙_}
+use Prim.Native.Nat.{_-_}
 use native.Mathlib.Omega.{arith}
-use lib.Seq.{take-all}
-use lib.IntN.{pos, natAbs}
+use lib.IntN.{pos}
 use mir.Syntax.{w64}
 use mir.ValLaws.{toZ-ofZ}
 use Rattle.numbers.specs.Signed.{between}
-use Rattle.rules.specs.Value.{padded, mostVariables}
+use Rattle.rules.specs.Value.{mostVariables}
 use Rattle.rules.specs.Table.{variables, nodes}
 use Rattle.rules.specs.Run.{mostSteps}
-use Rattle.run.proofs.Calls.{passed, count-is, some-node, inputs-long, few, header-inside, root-runnable, root-refused, room-refused, root-completable, root-answer}
+use Rattle.run.specs.Laws.Calls.{passed, count-is, some-node, inputs-long, few, header-inside, Begun, begins, root-runnable, root-refused, room-refused, root-completable, root-answer}
 use borrow.Author.Needs.{needs}
 use Rattle.run.proofs.call.start.Statement.{statement}
 use Rattle.run.proofs.call.start.Tie as tie
-use Rattle.run.proofs.call.start.Reads as reads
-use Rattle.run.proofs.call.start.Lts as lts
-use Rattle.run.proofs.call.complete.Reads as complete-reads
-use Rattle.run.proofs.call.refuse.Reads as refuse-reads
-use Rattle.run.proofs.input.limit_of.Reads as limit-of-reads
-use Rattle.run.proofs.input.padded.Reads as padded-reads
-use Rattle.run.proofs.statement.statement.Reads as statement-reads
-use Rattle.table.proofs.access.pair.Reads as pair-reads
-use Rattle.table.proofs.mentioned.mentions.Reads as mentions-reads
 
-pair-requires : tie.Need-pair-requires
-pair-requires c κs = let s = c .before in omega (arith, header-inside (s .args .t .now) (s .args .inputs .now) (s .args .limit) (s .pre))
+-- ---- the way back from place to place
 
-pair-requires-2 : tie.Need-pair-requires-2
-pair-requires-2 c κs = let s = c .before .before in omega (arith, header-inside (s .args .t .now) (s .args .inputs .now) (s .args .limit) (s .pre))
+abbrev counted : tie.After-padded → tie.After-pair
+counted c = c .before .before .before .before .before .before
 
-sub-root : tie.Need-sub-root
+abbrev start : tie.After-padded → tie.Start
+start c = counted c .before .before
+
+abbrev made : tie.After-statement → tie.After-padded
+made c = c .before .before
+
+abbrev ran : tie.After-enum-told → tie.After-statement
+ran c = c .before .before .before
+
+-- ---- what is known there
+
+begun : (c : tie.After-padded)
+    → Begun (start c .pre) (counted c .pair .result) (c .before .before .before .before .before .pair2 .result - 1) (c .before .before .before .before .limit-of .result) (c .padded .result .values) (c .before .before .before .mentions .result .lists)
+unfolding variables nodes
+begun c =
+    let m = c .before .before .before in
+    begins (start c .pre) (start c .fits .limit) (counted c .pair .ensures .0) (m .before .before .pair2 .ensures .0) (m .before .limit-of .ensures) (c .padded .ensures) (m .mentions .ensures)
+
+-- ---- the needs
+
+root-fits : tie.Need-sub-root
 unfolding nodes
-sub-root c = let s = c .before .before .before in omega (arith, some-node (s .args .t .now) (s .args .inputs .now) (s .args .limit) (s .pre), c .pair2 .ensures .0)
+root-fits c = omega (arith, some-node (c .before .before .before .pre), c .pair2 .ensures .0)
 
 limit-of-requires : tie.Need-limit-of-requires
-limit-of-requires c κs = let s = c .before .before .before in ap (between (pos 1) mostSteps) (toZ-ofZ w64 (s .args .limit) (s .fits .limit)) ∙ passed (s .args .t .now) (s .args .inputs .now) (s .args .limit) (s .pre) .limited
-
-mentions-requires : tie.Need-mentions-requires
-mentions-requires c κs = let s = c .before .before .before .before in (s .pre .program, passed (s .args .t .now) (s .args .inputs .now) (s .args .limit) (s .pre) .checked)
-
-add-statement : tie.Need-add-statement
-add-statement c = search needs
+limit-of-requires c κs = let s = c .before .before .before in ap (between (pos 1) mostSteps) (toZ-ofZ w64 (s .args .limit) (s .fits .limit)) ∙ passed (s .pre) .limited
 
 padded-requires : tie.Need-padded-requires
 unfolding mostVariables variables
-padded-requires c κs = let s = c .before .before .before .before .before .before .before in (omega (arith, (c .before .before .before .before .before .pair .ensures .0 ∙ count-is (s .args .t .now) (s .args .inputs .now) (s .args .limit) (s .pre)), inputs-long (s .args .t .now) (s .args .inputs .now) (s .args .limit) (s .pre)), omega (arith, (c .before .before .before .before .before .pair .ensures .0 ∙ count-is (s .args .t .now) (s .args .inputs .now) (s .args .limit) (s .pre)), few (s .args .t .now) (s .args .inputs .now) (s .args .limit) (s .pre)))
+padded-requires c κs =
+    let p = c .before .before .before .before .before in
+    let h = p .before .before .pre in
+    (omega (arith, p .pair .ensures .0 ∙ count-is h, inputs-long h), omega (arith, p .pair .ensures .0 ∙ count-is h, few h))
 
-mul-statement : tie.Need-mul-statement
-mul-statement c = search needs
-
-add-statement-2 : tie.Need-add-statement-2
-add-statement-2 c = search needs
-
-statement-requires : tie.Need-statement-requires
-unfolding variables nodes
-statement-requires c κs = let s = c .before .before .before .before .before .before .before .before .before in root-runnable (s .args .t .now) (s .args .inputs .now) (s .args .limit) (s .pre) (16 + c .before .before .before .before .before .before .before .pair .result) (c .before .before .before .before .before .before .pair2 .result - 1) (c .before .before .before .before .before .limit-of .result) (c .before .padded .result .values) (c .before .before .before .before .mentions .result .lists) (ap (λ (i : ℕ). 16 + i) (c .before .before .before .before .before .before .before .pair .ensures .0 ∙ count-is (s .args .t .now) (s .args .inputs .now) (s .args .limit) (s .pre))) (ap (λ (i : ℕ). i - 1) (c .before .before .before .before .before .before .pair2 .ensures .0)) (c .before .before .before .before .before .limit-of .ensures ∙ ap natAbs (toZ-ofZ w64 (s .args .limit) (s .fits .limit))) (c .before .padded .ensures ∙ ap padded (take-all (c .before .before .before .before .before .before .before .pair .result) (s .args .inputs .now) (omega (arith, (c .before .before .before .before .before .before .before .pair .ensures .0 ∙ count-is (s .args .t .now) (s .args .inputs .now) (s .args .limit) (s .pre)), inputs-long (s .args .t .now) (s .args .inputs .now) (s .args .limit) (s .pre))))) (c .before .before .before .before .mentions .ensures) (3 + 2 * c .before .before .before .before .before .before .before .pair .result) (ap (λ (i : ℕ). 3 + 2 * i) (c .before .before .before .before .before .before .before .pair .ensures .0 ∙ count-is (s .args .t .now) (s .args .inputs .now) (s .args .limit) (s .pre)))
-
-enum-known-outcome : tie.Need-enum-known-outcome
-enum-known-outcome c = search needs
-
-refuse-requires : tie.Need-refuse-requires
-refuse-requires c κs = search needs
-
-enum-told : tie.Need-enum-told
-enum-told c = search needs
-
-refuse-requires-2 : tie.Need-refuse-requires-2
-refuse-requires-2 c κs = search needs
-
-same-length : tie.Need-same-length
-same-length c = search needs
-
-returns : tie.Need-returns
-unfolding variables nodes
-returns c = let s = c .before .before .before .before .before .before .before .before .before .before .before .before .before .before .before .before .before .before in room-refused (s .args .t .now) (s .args .inputs .now) (s .args .limit) (s .pre) (16 + c .before .before .before .before .before .before .before .before .before .before .before .before .before .before .before .before .pair .result) (c .before .before .before .before .before .before .before .before .before .before .before .before .before .before .before .pair2 .result - 1) (c .before .before .before .before .before .before .before .before .before .before .before .before .before .before .limit-of .result) (c .before .before .before .before .before .before .before .before .before .before .padded .result .values) (c .before .before .before .before .before .before .before .before .before .before .before .before .before .mentions .result .lists) (ap (λ (i : ℕ). 16 + i) (c .before .before .before .before .before .before .before .before .before .before .before .before .before .before .before .before .pair .ensures .0 ∙ count-is (s .args .t .now) (s .args .inputs .now) (s .args .limit) (s .pre))) (ap (λ (i : ℕ). i - 1) (c .before .before .before .before .before .before .before .before .before .before .before .before .before .before .before .pair2 .ensures .0)) (c .before .before .before .before .before .before .before .before .before .before .before .before .before .before .limit-of .ensures ∙ ap natAbs (toZ-ofZ w64 (s .args .limit) (s .fits .limit))) (c .before .before .before .before .before .before .before .before .before .before .padded .ensures ∙ ap padded (take-all (c .before .before .before .before .before .before .before .before .before .before .before .before .before .before .before .before .pair .result) (s .args .inputs .now) (omega (arith, (c .before .before .before .before .before .before .before .before .before .before .before .before .before .before .before .before .pair .ensures .0 ∙ count-is (s .args .t .now) (s .args .inputs .now) (s .args .limit) (s .pre)), inputs-long (s .args .t .now) (s .args .inputs .now) (s .args .limit) (s .pre))))) (c .before .before .before .before .before .before .before .before .before .before .before .before .before .mentions .ensures) (c .before .before .before .before .before .before .before .before .statement .result) (s .args .out .now) (c .before .before .before .before .before .before .before .before .statement .last .1 .1 .1 .1 .1 .1 .0) (3 + 2 * c .before .before .before .before .before .before .before .before .before .before .before .before .before .before .before .before .pair .result) (ap (λ (i : ℕ). 3 + 2 * i) (c .before .before .before .before .before .before .before .before .before .before .before .before .before .before .before .before .pair .ensures .0 ∙ count-is (s .args .t .now) (s .args .inputs .now) (s .args .limit) (s .pre))) (c .before .before .before .before .before .before .before .before .statement .ensures) (c .before .before .before .before .before .before .before .before .statement .kept .1 .1 .1 .1 .1 .1 .0) (c .before .before .before .before .before .enum-told .given .1) (c .before .before .before .if1 .taken) (c .before .refuse2 .result) (c .before .refuse2 .last .0) (c .before .refuse2 .ensures)
+room-returns : tie.Need-returns
+room-returns c =
+    let f = c .before .before .before in
+    let e = f .before .before in
+    let r = ran e in
+    room-refused (start (made r) .pre) (begun (made r)) _ _ _ (r .statement .ensures) (r .statement .kept .1 .1 .1 .1 .1 .1 .0) (e .enum-told .given .1) (f .if1 .taken) (c .before .refuse2 .result) _ (c .before .refuse2 .ensures)
 
 complete-requires : tie.Need-complete-requires
-unfolding variables nodes
-complete-requires c κs = let s = c .before .before .before .before .before .before .before .before .before .before .before .before .before .before .before .before in root-completable (s .args .t .now) (s .args .inputs .now) (s .args .limit) (s .pre) (16 + c .before .before .before .before .before .before .before .before .before .before .before .before .before .before .pair .result) (c .before .before .before .before .before .before .before .before .before .before .before .before .before .pair2 .result - 1) (c .before .before .before .before .before .before .before .before .before .before .before .before .limit-of .result) (c .before .before .before .before .before .before .before .before .padded .result .values) (c .before .before .before .before .before .before .before .before .before .before .before .mentions .result .lists) (ap (λ (i : ℕ). 16 + i) (c .before .before .before .before .before .before .before .before .before .before .before .before .before .before .pair .ensures .0 ∙ count-is (s .args .t .now) (s .args .inputs .now) (s .args .limit) (s .pre))) (ap (λ (i : ℕ). i - 1) (c .before .before .before .before .before .before .before .before .before .before .before .before .before .pair2 .ensures .0)) (c .before .before .before .before .before .before .before .before .before .before .before .before .limit-of .ensures ∙ ap natAbs (toZ-ofZ w64 (s .args .limit) (s .fits .limit))) (c .before .before .before .before .before .before .before .before .padded .ensures ∙ ap padded (take-all (c .before .before .before .before .before .before .before .before .before .before .before .before .before .before .pair .result) (s .args .inputs .now) (omega (arith, (c .before .before .before .before .before .before .before .before .before .before .before .before .before .before .pair .ensures .0 ∙ count-is (s .args .t .now) (s .args .inputs .now) (s .args .limit) (s .pre)), inputs-long (s .args .t .now) (s .args .inputs .now) (s .args .limit) (s .pre))))) (c .before .before .before .before .before .before .before .before .before .before .before .mentions .ensures) (c .before .before .before .before .before .before .statement .result) (s .args .out .now) (c .before .before .before .before .before .before .statement .last .1 .1 .1 .1 .1 .1 .0) (3 + 2 * c .before .before .before .before .before .before .before .before .before .before .before .before .before .before .pair .result) (ap (λ (i : ℕ). 3 + 2 * i) (c .before .before .before .before .before .before .before .before .before .before .before .before .before .before .pair .ensures .0 ∙ count-is (s .args .t .now) (s .args .inputs .now) (s .args .limit) (s .pre))) (c .before .before .before .before .before .before .statement .ensures) (c .before .before .before .before .before .before .statement .kept .1 .1 .1 .1 .1 .1 .0) (c .before .before .before .enum-told .given .1) (c .before .before .before .before .before .before .before .before .before .before .before .before .before .before .pair .result) (c .before .before .before .before .before .before .before .before .before .before .before .before .before .before .pair .ensures .0 ∙ count-is (s .args .t .now) (s .args .inputs .now) (s .args .limit) (s .pre)) (c .before .if1 .left)
+complete-requires c κs =
+    let e = c .before .before .before in
+    let r = ran e in
+    root-completable (start (made r) .pre) (begun (made r)) _ _ _ (r .statement .ensures) (r .statement .kept .1 .1 .1 .1 .1 .1 .0) (e .enum-told .given .1) (c .before .if1 .left)
 
-same-length-2 : tie.Need-same-length-2
-same-length-2 c = search needs
+refused-returns : tie.Need-returns-2
+refused-returns c =
+    let q = c .before .before .before .before in
+    let r = q .before .before .before in
+    root-refused (start (made r) .pre) (begun (made r)) _ _ _ (r .statement .ensures) (r .statement .kept .1 .1 .1 .1 .1 .1 .0) (q .outcome .given .1) (c .before .refuse .result) _ (c .before .refuse .ensures)
 
-returns-2 : tie.Need-returns-2
-unfolding variables nodes
-returns-2 c = let s = c .before .before .before .before .before .before .before .before .before .before .before .before .before .before .before .before .before in root-refused (s .args .t .now) (s .args .inputs .now) (s .args .limit) (s .pre) (16 + c .before .before .before .before .before .before .before .before .before .before .before .before .before .before .before .pair .result) (c .before .before .before .before .before .before .before .before .before .before .before .before .before .before .pair2 .result - 1) (c .before .before .before .before .before .before .before .before .before .before .before .before .before .limit-of .result) (c .before .before .before .before .before .before .before .before .before .padded .result .values) (c .before .before .before .before .before .before .before .before .before .before .before .before .mentions .result .lists) (ap (λ (i : ℕ). 16 + i) (c .before .before .before .before .before .before .before .before .before .before .before .before .before .before .before .pair .ensures .0 ∙ count-is (s .args .t .now) (s .args .inputs .now) (s .args .limit) (s .pre))) (ap (λ (i : ℕ). i - 1) (c .before .before .before .before .before .before .before .before .before .before .before .before .before .before .pair2 .ensures .0)) (c .before .before .before .before .before .before .before .before .before .before .before .before .before .limit-of .ensures ∙ ap natAbs (toZ-ofZ w64 (s .args .limit) (s .fits .limit))) (c .before .before .before .before .before .before .before .before .before .padded .ensures ∙ ap padded (take-all (c .before .before .before .before .before .before .before .before .before .before .before .before .before .before .before .pair .result) (s .args .inputs .now) (omega (arith, (c .before .before .before .before .before .before .before .before .before .before .before .before .before .before .before .pair .ensures .0 ∙ count-is (s .args .t .now) (s .args .inputs .now) (s .args .limit) (s .pre)), inputs-long (s .args .t .now) (s .args .inputs .now) (s .args .limit) (s .pre))))) (c .before .before .before .before .before .before .before .before .before .before .before .before .mentions .ensures) (c .before .before .before .before .before .before .before .statement .result) (s .args .out .now) (c .before .before .before .before .before .before .before .statement .last .1 .1 .1 .1 .1 .1 .0) (3 + 2 * c .before .before .before .before .before .before .before .before .before .before .before .before .before .before .before .pair .result) (ap (λ (i : ℕ). 3 + 2 * i) (c .before .before .before .before .before .before .before .before .before .before .before .before .before .before .before .pair .ensures .0 ∙ count-is (s .args .t .now) (s .args .inputs .now) (s .args .limit) (s .pre))) (c .before .before .before .before .before .before .before .statement .ensures) (c .before .before .before .before .before .before .before .statement .kept .1 .1 .1 .1 .1 .1 .0) (c .before .before .before .before .outcome .given .0 .0) (c .before .before .before .before .outcome .given .1) (c .before .refuse .result) (c .before .refuse .last .0) (c .before .refuse .ensures)
-
-same-length-3 : tie.Need-same-length-3
-same-length-3 c = search needs
-
-returns-3 : tie.Need-returns-3
-unfolding variables nodes
-returns-3 c = let s = c .before .before .before .before .before .before .before .before .before .before .before .before .before .before .before .before .before .before in root-answer (s .args .t .now) (s .args .inputs .now) (s .args .limit) (s .pre) (16 + c .before .before .before .before .before .before .before .before .before .before .before .before .before .before .before .before .pair .result) (c .before .before .before .before .before .before .before .before .before .before .before .before .before .before .before .pair2 .result - 1) (c .before .before .before .before .before .before .before .before .before .before .before .before .before .before .limit-of .result) (c .before .before .before .before .before .before .before .before .before .before .padded .result .values) (c .before .before .before .before .before .before .before .before .before .before .before .before .before .mentions .result .lists) (ap (λ (i : ℕ). 16 + i) (c .before .before .before .before .before .before .before .before .before .before .before .before .before .before .before .before .pair .ensures .0 ∙ count-is (s .args .t .now) (s .args .inputs .now) (s .args .limit) (s .pre))) (ap (λ (i : ℕ). i - 1) (c .before .before .before .before .before .before .before .before .before .before .before .before .before .before .before .pair2 .ensures .0)) (c .before .before .before .before .before .before .before .before .before .before .before .before .before .before .limit-of .ensures ∙ ap natAbs (toZ-ofZ w64 (s .args .limit) (s .fits .limit))) (c .before .before .before .before .before .before .before .before .before .before .padded .ensures ∙ ap padded (take-all (c .before .before .before .before .before .before .before .before .before .before .before .before .before .before .before .before .pair .result) (s .args .inputs .now) (omega (arith, (c .before .before .before .before .before .before .before .before .before .before .before .before .before .before .before .before .pair .ensures .0 ∙ count-is (s .args .t .now) (s .args .inputs .now) (s .args .limit) (s .pre)), inputs-long (s .args .t .now) (s .args .inputs .now) (s .args .limit) (s .pre))))) (c .before .before .before .before .before .before .before .before .before .before .before .before .before .mentions .ensures) (c .before .before .before .before .before .before .before .before .statement .result) (s .args .out .now) (c .before .before .before .before .before .before .before .before .statement .last .1 .1 .1 .1 .1 .1 .0) (3 + 2 * c .before .before .before .before .before .before .before .before .before .before .before .before .before .before .before .before .pair .result) (ap (λ (i : ℕ). 3 + 2 * i) (c .before .before .before .before .before .before .before .before .before .before .before .before .before .before .before .before .pair .ensures .0 ∙ count-is (s .args .t .now) (s .args .inputs .now) (s .args .limit) (s .pre))) (c .before .before .before .before .before .before .before .before .statement .ensures) (c .before .before .before .before .before .before .before .before .statement .kept .1 .1 .1 .1 .1 .1 .0) (c .before .before .before .before .before .enum-told .given .1) (c .before .before .before .before .before .before .before .before .before .before .before .before .before .before .before .before .pair .result) (c .before .before .before .before .before .before .before .before .before .before .before .before .before .before .before .before .pair .ensures .0 ∙ count-is (s .args .t .now) (s .args .inputs .now) (s .args .limit) (s .pre)) (c .before .before .before .if1 .left) (c .before .complete .result) (c .before .complete .last .1 .1 .1 .1 .0) (c .before .complete .ensures)
+returns : tie.Need-returns-3
+returns c =
+    let f = c .before .before .before in
+    let e = f .before .before in
+    let r = ran e in
+    root-answer (start (made r) .pre) (begun (made r)) _ _ _ (r .statement .ensures) (r .statement .kept .1 .1 .1 .1 .1 .1 .0) (e .enum-told .given .1) (f .if1 .left) (c .before .complete .result) _ (c .before .complete .ensures)
 
 pub start-spec : {M : Type 1} → statement M
 start-spec =
-    tie.close
-    (tie.spec
-    pair-requires
-    pair-requires-2
-    sub-root
+    tie.close (tie.spec
+    (λ c κs. omega (arith, header-inside (c .before .pre)))
+    (λ c κs. omega (arith, header-inside (c .before .before .pre)))
+    root-fits
     limit-of-requires
-    mentions-requires
-    add-statement
+    (λ c κs. let s = c .before .before .before .before in (s .pre .program, passed (s .pre) .checked))
+    (λ c. search needs)
     padded-requires
-    mul-statement
-    add-statement-2
-    statement-requires
-    enum-known-outcome
-    refuse-requires
-    enum-told
-    refuse-requires-2
-    same-length
-    returns
+    (λ c. search needs) (λ c. search needs)
+    (λ c κs. root-runnable (start (c .before) .pre) (begun (c .before)))
+    (λ c. search needs) (λ c κs. search needs) (λ c. search needs) (λ c κs. search needs) (λ c. search needs)
+    room-returns
     complete-requires
-    same-length-2
-    returns-2
-    same-length-3
-    returns-3)
+    (λ c. search needs)
+    refused-returns
+    (λ c. search needs)
+    returns)

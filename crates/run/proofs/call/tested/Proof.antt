@@ -1,58 +1,67 @@
 -- `run::call::tested` meets its contract: each test in turn is a test of the definition.
 -- Assumes nothing.
-use mathlib.Core.Path.{ap, _∙_}
+use mathlib.Core.Path.{_≡_, ap, _∙_}
 use lib.IntN.{pos}
 use mir.Syntax.{w64}
 use mir.ValLaws.{toZ-ofZ}
 use Rattle.numbers.specs.Signed.{between}
+use Rattle.rules.specs.Outcome.{accepted}
+use Rattle.rules.specs.Table.{Program, check}
 use Rattle.rules.specs.Run.{mostSteps}
-use Rattle.run.proofs.Calls.{not-yes, not-no, check-refused, check-accepted, types-inside, store-refused, limit-refused, all-passed}
+use Rattle.run.specs.Laws.Tests.{check-refused, check-accepted, types-inside, store-refused, limit-refused, all-passed}
 use borrow.Author.Needs.{needs}
+use borrow.Author.Tests.{not-true, not-false}
 use Rattle.run.proofs.call.tested.Statement.{statement}
 use Rattle.run.proofs.call.tested.Tie as tie
-use Rattle.run.proofs.call.tested.Reads as reads
-use Rattle.run.proofs.call.tested.Lts as lts
-use Rattle.run.proofs.input.fits.Reads as fits-reads
-use Rattle.run.proofs.input.in_limits.Reads as in-limits-reads
-use Rattle.table.proofs.check.check.Reads as check-reads
 
-check-requires : tie.Need-check-requires
-check-requires c κs = search needs
+-- ---- the way back from place to place
 
-enum-told : tie.Need-enum-told
-enum-told c = search needs
+abbrev start : tie.After-enum-told → tie.Start
+start c = c .before .before .before .before
 
-enum-told-2 : tie.Need-enum-told-2
-enum-told-2 c = search needs
+abbrev fitted : tie.After-in-limits → tie.After-fits2
+fitted c = c .before .before
 
-returns : tie.Need-returns
-returns c = let s = c .before .before .before .before in check-refused (s .args .t .now) (s .args .inputs .now) (s .args .limit) (c .before .before .check .result) (c .enum-told2 .given .0 .0) (c .enum-told2 .given .1) (c .before .before .check .ensures)
+-- ---- what is known there
 
-fits-requires : tie.Need-fits-requires
-fits-requires c κs = let s = c .before .before .before .before in types-inside (s .args .t .now) (s .args .inputs .now) (s .args .limit) ((check-accepted (s .args .t .now) (s .args .inputs .now) (s .args .limit) (c .before .before .check .result) (c .enum-told .given .1) (c .before .before .check .ensures)) .0) ((check-accepted (s .args .t .now) (s .args .inputs .now) (s .args .limit) (c .before .before .check .result) (c .enum-told .given .1) (c .before .before .check .ensures)) .1)
+table-passes : (c : tie.After-enum-told) → (p : Program) × (check (start c .args .t .now) ≡ accepted p)
+table-passes c = check-accepted (start c .args .t .now) (c .enum-told .given .1) (c .before .before .check .ensures)
 
-returns-2 : tie.Need-returns-2
-returns-2 c = let s = c .before .before .before .before .before .before in store-refused (s .args .t .now) (s .args .inputs .now) (s .args .limit) ((check-accepted (s .args .t .now) (s .args .inputs .now) (s .args .limit) (c .before .before .before .before .check .result) (c .before .before .enum-told .given .1) (c .before .before .before .before .check .ensures)) .0) ((check-accepted (s .args .t .now) (s .args .inputs .now) (s .args .limit) (c .before .before .before .before .check .result) (c .before .before .enum-told .given .1) (c .before .before .before .before .check .ensures)) .1) (c .before .fits2 .result) (c .before .fits2 .ensures) (not-yes (c .before .fits2 .result) (c .if1 .taken))
+limit-told : (c : tie.After-in-limits) → c .in-limits .result ≡ between (pos 1) mostSteps (start (fitted c .before) .args .limit)
+limit-told c = let s = start (fitted c .before) in c .in-limits .ensures ∙ ap (between (pos 1) mostSteps) (toZ-ofZ w64 (s .args .limit) (s .fits .limit))
 
-in-limits-requires : tie.Need-in-limits-requires
-in-limits-requires c κs = search needs
+-- ---- the needs
 
-returns-3 : tie.Need-returns-3
-returns-3 c = let s = c .before .before .before .before .before .before .before .before in limit-refused (s .args .t .now) (s .args .inputs .now) (s .args .limit) ((check-accepted (s .args .t .now) (s .args .inputs .now) (s .args .limit) (c .before .before .before .before .before .before .check .result) (c .before .before .before .before .enum-told .given .1) (c .before .before .before .before .before .before .check .ensures)) .0) ((check-accepted (s .args .t .now) (s .args .inputs .now) (s .args .limit) (c .before .before .before .before .before .before .check .result) (c .before .before .before .before .enum-told .given .1) (c .before .before .before .before .before .before .check .ensures)) .1) (c .before .before .before .fits2 .result) (c .before .before .before .fits2 .ensures) (not-no (c .before .before .before .fits2 .result) (c .before .before .if1 .left)) (c .before .in-limits .result) (c .before .in-limits .ensures ∙ ap (between (pos 1) mostSteps) (toZ-ofZ w64 (s .args .limit) (s .fits .limit))) (not-yes (c .before .in-limits .result) (c .if2 .taken))
+table-returns : tie.Need-returns
+table-returns c = let s = c .before .before .before .before in check-refused (s .args .t .now) (s .args .inputs .now) (s .args .limit) (c .enum-told2 .given .1) (c .before .before .check .ensures)
 
-returns-4 : tie.Need-returns-4
-returns-4 c = let s = c .before .before .before .before .before .before .before .before in all-passed (s .args .t .now) (s .args .inputs .now) (s .args .limit) ((check-accepted (s .args .t .now) (s .args .inputs .now) (s .args .limit) (c .before .before .before .before .before .before .check .result) (c .before .before .before .before .enum-told .given .1) (c .before .before .before .before .before .before .check .ensures)) .0) ((check-accepted (s .args .t .now) (s .args .inputs .now) (s .args .limit) (c .before .before .before .before .before .before .check .result) (c .before .before .before .before .enum-told .given .1) (c .before .before .before .before .before .before .check .ensures)) .1) (c .before .before .before .fits2 .result) (c .before .before .before .fits2 .ensures) (not-no (c .before .before .before .fits2 .result) (c .before .before .if1 .left)) (c .before .in-limits .result) (c .before .in-limits .ensures ∙ ap (between (pos 1) mostSteps) (toZ-ofZ w64 (s .args .limit) (s .fits .limit))) (not-no (c .before .in-limits .result) (c .if2 .left))
+store-returns : tie.Need-returns-2
+store-returns c =
+    let f = c .before in
+    let s = start (f .before) .args in
+    store-refused (s .t .now) (s .inputs .now) (s .limit) (table-passes (f .before)) (f .fits2 .ensures) (not-true (f .fits2 .result) (c .if1 .taken))
+
+limit-returns : tie.Need-returns-3
+limit-returns c =
+    let l = c .before in
+    let f = fitted l in
+    let s = start (f .before) .args in
+    limit-refused (s .t .now) (s .inputs .now) (s .limit) (table-passes (f .before)) (f .fits2 .ensures) (not-false (f .fits2 .result) (l .before .if1 .left)) (limit-told l) (not-true (l .in-limits .result) (c .if2 .taken))
+
+returns : tie.Need-returns-4
+returns c =
+    let l = c .before in
+    let f = fitted l in
+    let s = start (f .before) .args in
+    all-passed (s .t .now) (s .inputs .now) (s .limit) (table-passes (f .before)) (f .fits2 .ensures) (not-false (f .fits2 .result) (l .before .if1 .left)) (limit-told l) (not-false (l .in-limits .result) (c .if2 .left))
 
 pub tested-spec : {M : Type 1} → statement M
 tested-spec =
-    tie.close
-    (tie.spec
-    check-requires
-    enum-told
-    enum-told-2
-    returns
-    fits-requires
-    returns-2
-    in-limits-requires
-    returns-3
-    returns-4)
+    tie.close (tie.spec
+    (λ c κs. search needs) (λ c. search needs) (λ c. search needs)
+    table-returns
+    (λ c κs. types-inside _ (table-passes c))
+    store-returns
+    (λ c κs. search needs)
+    limit-returns
+    returns)

@@ -1,65 +1,60 @@
 -- `run::expression::finish` meets its contract: the two operands are put down, and `compute` decides.
 -- Assumes nothing.
-use mathlib.Core.Path.{_∙_}
+use mathlib.Core.Path.{_≡_, _∙_}
+use Prim.Native.Nat.{_+_}
+use lib.ListN.{set}
+use Rattle.rules.specs.Tree.{Operator}
+use Rattle.rules.specs.Table.{operator}
+use Rattle.rules.specs.Laws.Parts.{numberOfKind}
 use native.Mathlib.Omega.{arith}
 use Rattle.run.specs.Code.{computedAs}
-use Rattle.run.proofs.Numbers.{both-plain, two-put}
-use Rattle.run.proofs.Expressions.{finished-outside, finished-inside}
+use Rattle.run.specs.Laws.Numbers.{both-plain, two-put}
+use Rattle.run.specs.Laws.Operators.{finished-outside, finished-inside}
 use borrow.Author.Needs.{needs}
 use Rattle.run.proofs.expression.finish.Statement.{statement}
 use Rattle.run.proofs.expression.finish.Tie as tie
-use Rattle.run.proofs.expression.finish.Reads as reads
-use Rattle.run.proofs.expression.finish.Lts as lts
-use Rattle.run.proofs.number.compute.Reads as compute-reads
-use Rattle.run.proofs.words.put.Reads as put-reads
 
-put-requires : tie.Need-put-requires
-put-requires c κs = search needs
+-- ---- the way back from place to place
 
-add-put : tie.Need-add-put
-add-put c = search needs
+abbrev second : tie.After-compute → tie.After-put2
+second c = c .before .before
 
-put-requires-2 : tie.Need-put-requires-2
-put-requires-2 c κs = search needs
+abbrev first : tie.After-compute → tie.After-put
+first c = second c .before .before .before
 
-compute-requires : tie.Need-compute-requires
-compute-requires c κs = search needs
+abbrev start : tie.After-compute → tie.Start
+start c = first c .before .before
 
-enum-known-result : tie.Need-enum-known-result
-enum-known-result c = search needs
+-- ---- what is known there
 
-enum-told : tie.Need-enum-told
-enum-told c = search needs
+operands-laid : (c : tie.After-compute)
+    → second c .put2 .last .0 ≡ set (set (start c .args .out .now) (start c .args .at) (start c .args .x)) (start c .args .at + 1) (start c .args .y)
+operands-laid c =
+    let s = start c in
+    two-put (s .args .out .now) (s .args .at) (s .args .x) (s .args .y) (s .pre .0) (s .pre .1 .0) (first c .put .ensures) (second c .put2 .ensures)
 
-same-length : tie.Need-same-length
-same-length c = search needs
+result-is : (c : tie.After-compute) (o : Operator) → numberOfKind (operator o) ≡ start c .args .kind → c .compute .result ≡ computedAs o (start c .args .x) (start c .args .y)
+result-is c o e = let s = start c in c .compute .ensures o e ∙ both-plain (s .args .x) (s .args .y) (s .pre .0) (s .pre .1 .0) (computedAs o)
 
-returns : tie.Need-returns
-returns c = record {
-  lays = two-put (c .before .before .before .before .before .before .before .before .before .args .out .now) (c .before .before .before .before .before .before .before .before .before .args .at) (c .before .before .before .before .before .before .before .before .before .args .x) (c .before .before .before .before .before .before .before .before .before .args .y) (c .before .before .before .before .before .before .before .before .before .pre .0) (c .before .before .before .before .before .before .before .before .before .pre .1 .0) (c .before .before .before .before .before .before .before .put .ensures) (c .before .before .before .before .put2 .ensures);
-  ends = λ o e. finished-outside o (c .before .before .before .before .before .before .before .before .before .args .x) (c .before .before .before .before .before .before .before .before .before .args .y) (c .before .before .before .before .before .before .before .before .before .args .end) (c .before .before .compute .ensures o e ∙ both-plain (c .before .before .before .before .before .before .before .before .before .args .x) (c .before .before .before .before .before .before .before .before .before .args .y) (c .before .before .before .before .before .before .before .before .before .pre .0) (c .before .before .before .before .before .before .before .before .before .pre .1 .0) (computedAs o)) (c .enum-told .given .1);
-}
+-- ---- the needs
 
-same-length-2 : tie.Need-same-length-2
-same-length-2 c = search needs
+refused-returns : tie.Need-returns
+refused-returns c =
+    let r = c .before .before in
+    let s = start r .args in
+    record { lays = operands-laid r; ends = λ o e. finished-outside o (s .x) (s .y) (s .end) (result-is r o e) (c .enum-told .given .1) }
 
-returns-2 : tie.Need-returns-2
-returns-2 c = record {
-  lays = two-put (c .before .before .before .before .before .before .before .before .before .before .args .out .now) (c .before .before .before .before .before .before .before .before .before .before .args .at) (c .before .before .before .before .before .before .before .before .before .before .args .x) (c .before .before .before .before .before .before .before .before .before .before .args .y) (c .before .before .before .before .before .before .before .before .before .before .pre .0) (c .before .before .before .before .before .before .before .before .before .before .pre .1 .0) (c .before .before .before .before .before .before .before .before .put .ensures) (c .before .before .before .before .before .put2 .ensures);
-  ends = λ o e. finished-inside o (c .before .before .before .before .before .before .before .before .before .before .args .x) (c .before .before .before .before .before .before .before .before .before .before .args .y) (c .before .before .before .before .before .before .before .before .before .before .args .end) (c .before .before .before .compute .ensures o e ∙ both-plain (c .before .before .before .before .before .before .before .before .before .before .args .x) (c .before .before .before .before .before .before .before .before .before .before .args .y) (c .before .before .before .before .before .before .before .before .before .before .pre .0) (c .before .before .before .before .before .before .before .before .before .before .pre .1 .0) (computedAs o)) (c .before .result .given .0 .0) (c .before .result .given .1) (omega arith);
-}
+returns : tie.Need-returns-2
+returns c =
+    let r = c .before .before .before in
+    let s = start r .args in
+    record { lays = operands-laid r; ends = λ o e. finished-inside o (s .x) (s .y) (s .end) (result-is r o e) (c .before .result .given .0 .0) (c .before .result .given .1) (omega arith) }
 
 pub finish-spec : {M : Type 1} → statement M
 finish-spec =
-    tie.close
-    (tie.spec
-    put-requires
-    add-put
-    put-requires-2
-    compute-requires
-    enum-known-result
-    enum-told
-    same-length
-    returns
-    same-length-2
-    returns-2)
+    tie.close (tie.spec
+    (λ c κs. search needs) (λ c. search needs) (λ c κs. search needs) (λ c κs. search needs)
+    (λ c. search needs) (λ c. search needs) (λ c. search needs)
+    refused-returns
+    (λ c. search needs)
+    returns)

@@ -12,13 +12,9 @@ use borrow.Author.Count.{below-none, below-more}
 use borrow.Author.Needs.{needs}
 use Rattle.rules.specs.Value.{inType, at}
 use Rattle.rules.specs.Table.{variables}
-use Rattle.run.proofs.Fitting.{typeBy, count-is, header-long, fits-none, fits-not, fits-all}
+use Rattle.run.specs.Laws.Fitting.{typeBy, count-is, header-long, fits-none, fits-not, fits-all}
 use Rattle.run.proofs.input.fits.Statement.{statement}
 use Rattle.run.proofs.input.fits.Tie as tie
-use Rattle.run.proofs.input.fits.Reads as reads
-use Rattle.run.proofs.input.fits.Lts as lts
-use Rattle.run.proofs.input.in_type.Reads as in-type-reads
-use Rattle.table.proofs.access.pair.Reads as pair-reads
 
 abbrev Inv-loop : tie.InvT-loop
 Inv-loop t inputs count i₀ i = (i ≤ count) × ((k : ℕ) → k < i → inType (typeBy t k) (at inputs k) ≡ true)
@@ -57,32 +53,14 @@ returns c =
 loop-holds : tie.Need-loop-holds Inv-loop μ-loop
 loop-holds c = (omega arith, below-none _)
 
-add-in-type : tie.Need-add-in-type Inv-loop μ-loop
-add-in-type c = omega arith
-
 shared-slice-read-in-type : tie.Need-shared-slice-read-in-type Inv-loop μ-loop
 shared-slice-read-in-type c = omega (arith, inside (c .before .before))
-
-mul-in-type : tie.Need-mul-in-type Inv-loop μ-loop
-mul-in-type c = omega arith
-
-shared-slice-copy-out-in-type : tie.Need-shared-slice-copy-out-in-type Inv-loop μ-loop
-shared-slice-copy-out-in-type c = omega arith
-
-in-type-requires : tie.Need-in-type-requires Inv-loop μ-loop
-in-type-requires c κs = search needs
 
 returns-2 : tie.Need-returns-2 Inv-loop μ-loop
 returns-2 c =
     let h = head (c .before) in
     let s = start h in
     fits-not (s .args .t .now) (s .pre) (s .args .inputs .now) (h .loop .i) (omega (arith, count (h .before .before))) (answer (c .before) ∙ not-true _ (c .if2 .taken))
-
-add-i : tie.Need-add-i Inv-loop μ-loop
-add-i c = omega arith
-
-loop-less : tie.Need-loop-less Inv-loop μ-loop
-loop-less c = omega arith
 
 loop-again : tie.Need-loop-again Inv-loop μ-loop
 loop-again c = (omega arith, below-more _ _ (head (c .before) .loop .inv .1) (answer (c .before) ∙ not-false _ (c .if2 .left)))
@@ -95,20 +73,14 @@ returns-3 c =
 
 pub fits-spec : {M : Type 1} → statement M
 fits-spec =
-    tie.close
-    (tie.spec
-    Inv-loop
-    μ-loop
+    tie.close (tie.spec Inv-loop μ-loop
     pair-requires
     returns
     loop-holds
-    add-in-type
+    (λ c. omega arith)
     shared-slice-read-in-type
-    mul-in-type
-    shared-slice-copy-out-in-type
-    in-type-requires
+    (λ c. omega arith) (λ c. omega arith) (λ c κs. search needs)
     returns-2
-    add-i
-    loop-less
+    (λ c. omega arith) (λ c. omega arith)
     loop-again
     returns-3)

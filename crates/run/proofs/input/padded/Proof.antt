@@ -9,11 +9,9 @@ use lib.Seq.{length-take-le, getD-take}
 use lib.IntN.{pos}
 use borrow.Author.Needs.{needs}
 use Rattle.rules.specs.Value.{zeros, mostVariables}
-use Rattle.run.proofs.Laying.{Laid, laid-none, laid-by, laid-all, laid-padded}
+use Rattle.run.specs.Laws.Laying.{Laid, laid-none, laid-by, laid-all, laid-padded}
 use Rattle.run.proofs.input.padded.Statement.{statement}
 use Rattle.run.proofs.input.padded.Tie as tie
-use Rattle.run.proofs.input.padded.Reads as reads
-use Rattle.run.proofs.input.padded.Lts as lts
 
 abbrev Inv-loop : tie.InvT-loop
 Inv-loop words n values₀ i₀ values i = (i ≤ n) × Laid (zeros mostVariables) 0 (take n words) i values
@@ -23,26 +21,11 @@ abbrev μ-loop : tie.MeasureT-loop
 
 loop-holds : tie.Need-loop-holds Inv-loop μ-loop
 unfolding zeros mostVariables
-loop-holds c = (omega arith, laid-none (zeros mostVariables) 0 (take (c .args .n) (c .args .words .now)))
-
-mul-values : tie.Need-mul-values Inv-loop μ-loop
-mul-values c = omega arith
-
-shared-slice-copy-out-values : tie.Need-shared-slice-copy-out-values Inv-loop μ-loop
-shared-slice-copy-out-values c = omega arith
-
-mul-values-2 : tie.Need-mul-values-2 Inv-loop μ-loop
-mul-values-2 c = omega arith
+loop-holds c = (omega arith, laid-none)
 
 array-set-from-values : tie.Need-array-set-from-values Inv-loop μ-loop
 unfolding mostVariables
 array-set-from-values c = omega arith
-
-add-i : tie.Need-add-i Inv-loop μ-loop
-add-i c = omega arith
-
-loop-less : tie.Need-loop-less Inv-loop μ-loop
-loop-less c = omega arith
 
 loop-again : tie.Need-loop-again Inv-loop μ-loop
 loop-again c =
@@ -51,27 +34,21 @@ loop-again c =
     let n = h .before .args .n in
     let long : length (take n ws) ≡ n = length-take-le n ws (h .before .pre .0) in
     let word : getD ws (h .loop .i) (pos 0) ≡ getD (take n ws) (h .loop .i) (pos 0) = sym (getD-take n ws (h .loop .i) (pos 0) (omega arith)) in
-    let more = laid-by (zeros mostVariables) 0 (take n ws) (h .loop .i) (pos 0) _ (h .loop .inv .1) (omega (arith, long)) word (search needs) refl in
+    let more = laid-by (pos 0) (h .loop .inv .1) (omega (arith, long)) word (search needs) refl in
     (omega arith, rw (zero-add (h .loop .i)) at more)
 
 returns : tie.Need-returns Inv-loop μ-loop
 returns c =
     let ws = take (c .before .before .args .n) (c .before .before .args .words .now) in
     let long : length ws ≡ c .before .before .args .n = length-take-le (c .before .before .args .n) (c .before .before .args .words .now) (c .before .before .pre .0) in
-    laid-all (zeros mostVariables) 0 ws (c .before .loop .i) (c .before .loop .inv .1) (omega (arith, long, c .loop-test .left)) ∙ laid-padded ws (omega (arith, long, c .before .before .pre .1))
+    laid-all (c .before .loop .inv .1) (omega (arith, long, c .loop-test .left)) ∙ laid-padded ws (omega (arith, long, c .before .before .pre .1))
 
 pub padded-spec : {M : Type 1} → statement M
 padded-spec =
-    tie.close
-    (tie.spec
-    Inv-loop
-    μ-loop
+    tie.close (tie.spec Inv-loop μ-loop
     loop-holds
-    mul-values
-    shared-slice-copy-out-values
-    mul-values-2
+    (λ c. omega arith) (λ c. omega arith) (λ c. omega arith)
     array-set-from-values
-    add-i
-    loop-less
+    (λ c. omega arith) (λ c. omega arith)
     loop-again
     returns)

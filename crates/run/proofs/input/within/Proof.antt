@@ -1,10 +1,8 @@
 -- `run::input::within` meets its contract: the two tests, each on words read back, are those of `between`.
 -- Assumes nothing.
-use Rattle.run.proofs.Fitting.{within-both, within-not}
+use Rattle.run.specs.Laws.Fitting.{within-both, within-not}
 use Rattle.run.proofs.input.within.Statement.{statement}
 use Rattle.run.proofs.input.within.Tie as tie
-use Rattle.run.proofs.input.within.Reads as reads
-use Rattle.run.proofs.input.within.Lts as lts
 
 returns : tie.Need-returns
 returns c =

@@ -1,26 +1,25 @@
 -- `run::number::compute` meets its contract: the two tests at the ends of the range decide whether the result is a value of its type.
 -- Assumes nothing.
-use mathlib.Core.Path.{_∙_}
-use Rattle.rules.specs.Tree.{apply}
-use Rattle.run.proofs.Numbers.{both-plain, outside-below, outside-above, inside}
+use mathlib.Core.Path.{_≡_, _∙_}
+use Rattle.rules.specs.Tree.{Operator, apply}
+use Rattle.rules.specs.Table.{operator}
+use Rattle.rules.specs.Laws.Parts.{numberOfKind}
+use Rattle.run.specs.Laws.Numbers.{both-plain, outside-below, outside-above, inside}
 use borrow.Author.Needs.{needs}
 use Rattle.run.proofs.number.compute.Statement.{statement}
 use Rattle.run.proofs.number.compute.Tie as tie
-use Rattle.run.proofs.number.compute.Reads as reads
-use Rattle.run.proofs.number.compute.Lts as lts
-use Rattle.run.proofs.number.apply.Reads as apply-reads
 
-apply-requires : tie.Need-apply-requires
-apply-requires c κs = search needs
+result-is : (c : tie.After-apply) (o : Operator) → numberOfKind (operator o) ≡ c .before .args .kind → c .apply .result ≡ apply o (c .before .args .x) (c .before .args .y)
+result-is c o e = let s = c .before in c .apply .ensures o e ∙ both-plain (s .args .x) (s .args .y) (s .pre .0) (s .pre .1) (apply o)
 
-returns : tie.Need-returns
-returns c o e = outside-below o (c .before .before .args .x) (c .before .before .args .y) (c .before .apply .result) (c .before .apply .ensures o e ∙ both-plain (c .before .before .args .x) (c .before .before .args .y) (c .before .before .pre .0) (c .before .before .pre .1) (apply o)) (c .before .apply .ok) (c .if1 .taken)
+below-returns : tie.Need-returns
+below-returns c o e = let z = c .before in outside-below o (z .before .args .x) (z .before .args .y) (z .apply .result) (result-is z o e) (z .apply .ok) (c .if1 .taken)
 
-returns-2 : tie.Need-returns-2
-returns-2 c o e = outside-above o (c .before .before .before .args .x) (c .before .before .before .args .y) (c .before .before .apply .result) (c .before .before .apply .ensures o e ∙ both-plain (c .before .before .before .args .x) (c .before .before .before .args .y) (c .before .before .before .pre .0) (c .before .before .before .pre .1) (apply o)) (c .before .before .apply .ok) (c .if2 .taken)
+above-returns : tie.Need-returns-2
+above-returns c o e = let z = c .before .before in outside-above o (z .before .args .x) (z .before .args .y) (z .apply .result) (result-is z o e) (z .apply .ok) (c .if2 .taken)
 
-returns-3 : tie.Need-returns-3
-returns-3 c o e = inside o (c .before .before .before .args .x) (c .before .before .before .args .y) (c .before .before .apply .result) (c .before .before .apply .ensures o e ∙ both-plain (c .before .before .before .args .x) (c .before .before .before .args .y) (c .before .before .before .pre .0) (c .before .before .before .pre .1) (apply o)) (c .before .before .apply .ok) (c .before .if1 .left) (c .if2 .left)
+returns : tie.Need-returns-3
+returns c o e = let z = c .before .before in inside o (z .before .args .x) (z .before .args .y) (z .apply .result) (result-is z o e) (z .apply .ok) (c .before .if1 .left) (c .if2 .left)
 
 pub compute-spec : {M : Type 1} → statement M
-compute-spec = tie.close (tie.spec apply-requires returns returns-2 returns-3)
+compute-spec = tie.close (tie.spec (λ c κs. search needs) below-returns above-returns returns)

@@ -4,8 +4,6 @@ use mathlib.Core.Path.{sym, ap}
 use Rattle.rules.specs.Value.{bit}
 use Rattle.run.proofs.number.truth.Statement.{statement}
 use Rattle.run.proofs.number.truth.Tie as tie
-use Rattle.run.proofs.number.truth.Reads as reads
-use Rattle.run.proofs.number.truth.Lts as lts
 
 returns : tie.Need-returns
 returns c = ap bit (sym (c .if1 .taken))

@@ -1,11 +1,9 @@
 -- `run::statement::times` meets its contract: a count below 1 makes none, and any other is itself.
 -- Assumes nothing.
 use mathlib.Core.Path.{sym}
-use Rattle.run.proofs.Numbers.{below-one, from-one}
+use Rattle.run.specs.Laws.Numbers.{below-one, from-one}
 use Rattle.run.proofs.statement.times.Statement.{statement}
 use Rattle.run.proofs.statement.times.Tie as tie
-use Rattle.run.proofs.statement.times.Reads as reads
-use Rattle.run.proofs.statement.times.Lts as lts
 
 returns : tie.Need-returns
 returns c = sym (below-one (c .before .args .count) (c .before .fits .count) (c .if1 .taken))

@@ -6,19 +6,10 @@ use Rattle.table.proofs.Fields.{pair-behind}
 use borrow.Author.Needs.{needs}
 use Rattle.table.proofs.access.child_a.Statement.{statement}
 use Rattle.table.proofs.access.child_a.Tie as tie
-use Rattle.table.proofs.access.child_a.Reads as reads
-use Rattle.table.proofs.access.child_a.Lts as lts
-use Rattle.table.proofs.access.pair.Reads as pair-reads
-
-add-pair : tie.Need-add-pair
-add-pair c = search needs
-
-pair-requires : tie.Need-pair-requires
-pair-requires c κs = search needs
 
 returns : tie.Need-returns
 unfolding readNode
 returns c = c .pair .ensures .0 ∙ pair-behind (c .before .before .args .t .now) (c .before .before .args .at) 2
 
 pub child-a-spec : {M : Type 1} → statement M
-child-a-spec = tie.close (tie.spec add-pair pair-requires returns)
+child-a-spec = tie.close (tie.spec (λ c. search needs) (λ c κs. search needs) returns)

@@ -6,19 +6,10 @@ use Rattle.table.proofs.Fields.{pair-behind}
 use borrow.Author.Needs.{needs}
 use Rattle.table.proofs.access.child_b.Statement.{statement}
 use Rattle.table.proofs.access.child_b.Tie as tie
-use Rattle.table.proofs.access.child_b.Reads as reads
-use Rattle.table.proofs.access.child_b.Lts as lts
-use Rattle.table.proofs.access.pair.Reads as pair-reads
-
-add-pair : tie.Need-add-pair
-add-pair c = search needs
-
-pair-requires : tie.Need-pair-requires
-pair-requires c κs = search needs
 
 returns : tie.Need-returns
 unfolding readNode
 returns c = c .pair .ensures .0 ∙ pair-behind (c .before .before .args .t .now) (c .before .before .args .at) 4
 
 pub child-b-spec : {M : Type 1} → statement M
-child-b-spec = tie.close (tie.spec add-pair pair-requires returns)
+child-b-spec = tie.close (tie.spec (λ c. search needs) (λ c κs. search needs) returns)

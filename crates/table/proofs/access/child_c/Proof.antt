@@ -6,19 +6,10 @@ use Rattle.table.proofs.Fields.{pair-behind}
 use borrow.Author.Needs.{needs}
 use Rattle.table.proofs.access.child_c.Statement.{statement}
 use Rattle.table.proofs.access.child_c.Tie as tie
-use Rattle.table.proofs.access.child_c.Reads as reads
-use Rattle.table.proofs.access.child_c.Lts as lts
-use Rattle.table.proofs.access.pair.Reads as pair-reads
-
-add-pair : tie.Need-add-pair
-add-pair c = search needs
-
-pair-requires : tie.Need-pair-requires
-pair-requires c κs = search needs
 
 returns : tie.Need-returns
 unfolding readNode
 returns c = c .pair .ensures .0 ∙ pair-behind (c .before .before .args .t .now) (c .before .before .args .at) 6
 
 pub child-c-spec : {M : Type 1} → statement M
-child-c-spec = tie.close (tie.spec add-pair pair-requires returns)
+child-c-spec = tie.close (tie.spec (λ c. search needs) (λ c κs. search needs) returns)

@@ -1,14 +1,12 @@
 -- `table::access::constant` meets its contract: the four bytes, half the range up and round, are below 2^32, so that half the
 -- range down fits a signed word and is what `signed` says.
 -- Assumes nothing.
-use mathlib.Core.Path.{_≡_, refl, sym, ap, ap₂, _∙_, subst}
-use Prim.Native.Nat.{ℕ, _+_, _*_, _%_, _<_}
+use mathlib.Core.Path.{_≡_, sym, ap, ap₂, _∙_, subst}
+use Prim.Native.Nat.{ℕ, _+_, _*_, _%_}
 use native.Mathlib.Omega.{arith}
-use native.Mathlib.Nat.{lt-of-le-of-lt}
 use lib.IntN.{ℤ, pos, subℕ, _-ℤ_}
-use lib.Dec.{lit<}
 use mir.Syntax.{w64}
-use mir.Val.{SFits, toZ, ofZ}
+use mir.Val.{SFits, toZ}
 use mir.ValLaws.{toZ-pos, toZ-ofZ}
 use Rattle.numbers.specs.Bounds.{mag-subℕ}
 use Rattle.rules.specs.Table.{readNode, constantOf, signed}
@@ -16,9 +14,6 @@ use Rattle.table.proofs.Fields.{pair-behind}
 use borrow.Author.Needs.{needs}
 use Rattle.table.proofs.access.constant.Statement.{statement}
 use Rattle.table.proofs.access.constant.Tie as tie
-use Rattle.table.proofs.access.constant.Reads as reads
-use Rattle.table.proofs.access.constant.Lts as lts
-use Rattle.table.proofs.access.pair.Reads as pair-reads
 
 -- what is left of a number past 2^32, as the signed word that the code takes half the range from
 lowered : (n : ℕ) → toZ w64 (n % 4294967296) -ℤ pos 2147483648 ≡ subℕ (n % 4294967296) 2147483648
@@ -26,30 +21,6 @@ lowered n = ap (λ (z : ℤ). z -ℤ pos 2147483648) (toZ-pos w64 (n % 429496729
 
 lowered-fits : (n : ℕ) → SFits w64 (toZ w64 (n % 4294967296) -ℤ pos 2147483648)
 lowered-fits n = subst (SFits w64) (sym (lowered n)) (record { sfits = omega (arith, mag-subℕ (n % 4294967296) 2147483648) })
-
-add-pair : tie.Need-add-pair
-add-pair c = search needs
-
-pair-requires : tie.Need-pair-requires
-pair-requires c κs = search needs
-
-add-pair-2 : tie.Need-add-pair-2
-add-pair-2 c = search needs
-
-pair-requires-2 : tie.Need-pair-requires-2
-pair-requires-2 c κs = search needs
-
-mul-bits : tie.Need-mul-bits
-mul-bits c = search needs
-
-add-bits : tie.Need-add-bits
-add-bits c = search needs
-
-add-raised : tie.Need-add-raised
-add-raised c = search needs
-
-cast-result : tie.Need-cast-result
-cast-result c = search needs
 
 sub-result : tie.Need-sub-result
 sub-result c = lowered-fits (c .before .pair .result + 65536 * c .pair2 .result + 2147483648)
@@ -65,15 +36,8 @@ returns c =
 
 pub constant-spec : {M : Type 1} → statement M
 constant-spec =
-    tie.close
-    (tie.spec
-    add-pair
-    pair-requires
-    add-pair-2
-    pair-requires-2
-    mul-bits
-    add-bits
-    add-raised
-    cast-result
+    tie.close (tie.spec
+    (λ c. search needs) (λ c κs. search needs) (λ c. search needs) (λ c κs. search needs) (λ c. search needs)
+    (λ c. search needs) (λ c. search needs) (λ c. search needs)
     sub-result
     returns)

@@ -6,19 +6,10 @@ use Rattle.table.proofs.Fields.{first-byte}
 use borrow.Author.Needs.{needs}
 use Rattle.table.proofs.access.kind.Statement.{statement}
 use Rattle.table.proofs.access.kind.Tie as tie
-use Rattle.table.proofs.access.kind.Reads as reads
-use Rattle.table.proofs.access.kind.Lts as lts
-use Rattle.table.proofs.access.wide.Reads as wide-reads
-
-shared-slice-read-wide : tie.Need-shared-slice-read-wide
-shared-slice-read-wide c = search needs
-
-wide-requires : tie.Need-wide-requires
-wide-requires c κs = search needs
 
 returns : tie.Need-returns
 unfolding readNode
 returns c = c .wide .ensures .0 ∙ first-byte (c .before .before .before .args .t .now) (c .before .before .before .args .at)
 
 pub kind-spec : {M : Type 1} → statement M
-kind-spec = tie.close (tie.spec shared-slice-read-wide wide-requires returns)
+kind-spec = tie.close (tie.spec (λ c. search needs) (λ c κs. search needs) returns)

@@ -23,9 +23,6 @@ sizes-read c =
 types-right : (c : tie.Else2) → checkTypes (typeBytes (now (c .before .before .before .before .before .before .before .args .t))) ≡ accepted tt
 types-right c = told-right _ (when (c .before .types-fit .ensures) (c .if2 .left))
 
-header-fits-requires : tie.Need-header-fits-requires
-header-fits-requires c κs = search needs
-
 returns : tie.Need-returns
 returns c = header-refused _ (when-not (c .before .header-fits .ensures) (c .if1 .taken))
 
@@ -76,9 +73,8 @@ returns-6 c =
 
 pub check-spec : {M : Type 1} → statement M
 check-spec =
-    tie.close
-    (tie.spec
-    header-fits-requires
+    tie.close (tie.spec
+    (λ c κs. search needs)
     returns
     pair-requires
     pair-requires-2

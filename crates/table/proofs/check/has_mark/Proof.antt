@@ -7,31 +7,13 @@ use Rattle.table.specs.Laws.Tests.{mark-ends}
 use Rattle.table.proofs.check.has_mark.Statement.{statement}
 use Rattle.table.proofs.check.has_mark.Tie as tie
 
-shared-slice-read-if1 : tie.Need-shared-slice-read-if1
-shared-slice-read-if1 c = search needs
-
-element-copy-out-if1 : tie.Need-element-copy-out-if1
-element-copy-out-if1 c = search needs
-
 returns : tie.Need-returns
 unfolding marked
 returns c = simp (ne-eqb _ 0x49 (c .if1 .taken))
 
-shared-slice-read-if2 : tie.Need-shared-slice-read-if2
-shared-slice-read-if2 c = search needs
-
-element-copy-out-if2 : tie.Need-element-copy-out-if2
-element-copy-out-if2 c = search needs
-
 returns-2 : tie.Need-returns-2
 unfolding marked
 returns-2 c = simp (eq-eqb _ 0x49 (c .before .before .before .if1 .left), ne-eqb _ 0x4d (c .if2 .taken))
-
-shared-slice-read-if3 : tie.Need-shared-slice-read-if3
-shared-slice-read-if3 c = search needs
-
-element-copy-out-if3 : tie.Need-element-copy-out-if3
-element-copy-out-if3 c = search needs
 
 returns-3 : tie.Need-returns-3
 unfolding marked
@@ -39,12 +21,6 @@ returns-3 c =
     let second = c .before .before .before in
     let first = second .before .before .before in
     simp (eq-eqb _ 0x49 (first .if1 .left), eq-eqb _ 0x4d (second .if2 .left), ne-eqb _ 0x50 (c .if3 .taken))
-
-shared-slice-read-result : tie.Need-shared-slice-read-result
-shared-slice-read-result c = search needs
-
-element-copy-out-result : tie.Need-element-copy-out-result
-element-copy-out-result c = search needs
 
 returns-4 : tie.Need-returns-4
 returns-4 c =
@@ -55,17 +31,12 @@ returns-4 c =
 
 pub has-mark-spec : {M : Type 1} → statement M
 has-mark-spec =
-    tie.close
-    (tie.spec
-    shared-slice-read-if1
-    element-copy-out-if1
+    tie.close (tie.spec
+    (λ c. search needs) (λ c. search needs)
     returns
-    shared-slice-read-if2
-    element-copy-out-if2
+    (λ c. search needs) (λ c. search needs)
     returns-2
-    shared-slice-read-if3
-    element-copy-out-if3
+    (λ c. search needs) (λ c. search needs)
     returns-3
-    shared-slice-read-result
-    element-copy-out-result
+    (λ c. search needs) (λ c. search needs)
     returns-4)

@@ -10,43 +10,19 @@ use Rattle.table.proofs.check.header_fits.Tie as tie
 returns : tie.Need-returns
 returns c = too-short _ (c .if1 .taken)
 
-has-mark-requires : tie.Need-has-mark-requires
-has-mark-requires c κs = search needs
-
 returns-2 : tie.Need-returns-2
 returns-2 c = unmarked _ (sym (c .before .has-mark .ensures) ∙ not-true _ (c .if2 .taken))
-
-pair-requires : tie.Need-pair-requires
-pair-requires c κs = search needs
-
-pair-requires-2 : tie.Need-pair-requires-2
-pair-requires-2 c κs = search needs
-
-sizes-fit-requires : tie.Need-sizes-fit-requires
-sizes-fit-requires c κs = search needs
 
 returns-3 : tie.Need-returns-3
 returns-3 c =
     let sizes = c .before .before in
     sizes-wrong _ _ _ (sizes .before .pair .ensures .0) (sizes .pair2 .ensures .0) (sym (c .before .sizes-fit .ensures) ∙ not-true _ (c .if3 .taken))
 
-offsets-fit-requires : tie.Need-offsets-fit-requires
-offsets-fit-requires c κs = search needs
-
 returns-4 : tie.Need-returns-4
 returns-4 c =
     let sizes = c .before .before .before .before in
     offsets-wrong _ _ _ (sizes .before .pair .ensures .0) (sizes .pair2 .ensures .0)
     (sym (c .before .offsets-fit .ensures) ∙ not-true _ (c .if4 .taken))
-
-add-result : tie.Need-add-result
-add-result c = search needs
-
-mul-result : tie.Need-mul-result
-mul-result c = search needs
-
-add-result-2 : tie.Need-add-result-2
-add-result-2 c = search needs
 
 returns-5 : tie.Need-returns-5
 returns-5 c =
@@ -61,18 +37,13 @@ returns-5 c =
 
 pub header-fits-spec : {M : Type 1} → statement M
 header-fits-spec =
-    tie.close
-    (tie.spec
+    tie.close (tie.spec
     returns
-    has-mark-requires
+    (λ c κs. search needs)
     returns-2
-    pair-requires
-    pair-requires-2
-    sizes-fit-requires
+    (λ c κs. search needs) (λ c κs. search needs) (λ c κs. search needs)
     returns-3
-    offsets-fit-requires
+    (λ c κs. search needs)
     returns-4
-    add-result
-    mul-result
-    add-result-2
+    (λ c. search needs) (λ c. search needs) (λ c. search needs)
     returns-5)

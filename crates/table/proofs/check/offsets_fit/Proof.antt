@@ -6,38 +6,14 @@ use Rattle.table.specs.Laws.Tests.{types-off, nodes-off, length-off, off
 use Rattle.table.proofs.check.offsets_fit.Statement.{statement}
 use Rattle.table.proofs.check.offsets_fit.Tie as tie
 
-pair-requires : tie.Need-pair-requires
-pair-requires c κs = search needs
-
 returns : tie.Need-returns
 returns c = types-off _ _ _ _ (c .before .pair .ensures .0) (c .if1 .taken)
-
-pair-requires-2 : tie.Need-pair-requires-2
-pair-requires-2 c κs = search needs
-
-add-if2 : tie.Need-add-if2
-add-if2 c = search needs
 
 returns-2 : tie.Need-returns-2
 returns-2 c = nodes-off _ _ _ _ (c .before .pair2 .ensures .0) (c .if2 .taken)
 
-pair-requires-3 : tie.Need-pair-requires-3
-pair-requires-3 c κs = search needs
-
-add-if3 : tie.Need-add-if3
-add-if3 c = search needs
-
-mul-if3 : tie.Need-mul-if3
-mul-if3 c = search needs
-
-add-if3-2 : tie.Need-add-if3-2
-add-if3-2 c = search needs
-
 returns-3 : tie.Need-returns-3
 returns-3 c = length-off _ _ _ _ (c .before .pair3 .ensures .0) (c .if3 .taken)
-
-pair-requires-4 : tie.Need-pair-requires-4
-pair-requires-4 c κs = search needs
 
 returns-4 : tie.Need-returns-4
 returns-4 c =
@@ -52,17 +28,12 @@ returns-4 c =
 
 pub offsets-fit-spec : {M : Type 1} → statement M
 offsets-fit-spec =
-    tie.close
-    (tie.spec
-    pair-requires
+    tie.close (tie.spec
+    (λ c κs. search needs)
     returns
-    pair-requires-2
-    add-if2
+    (λ c κs. search needs) (λ c. search needs)
     returns-2
-    pair-requires-3
-    add-if3
-    mul-if3
-    add-if3-2
+    (λ c κs. search needs) (λ c. search needs) (λ c. search needs) (λ c. search needs)
     returns-3
-    pair-requires-4
+    (λ c κs. search needs)
     returns-4)

@@ -21,21 +21,6 @@ abbrev μ-loop : tie.MeasureT-loop
 loop-holds : tie.Need-loop-holds Inv-loop μ-loop
 loop-holds c = (search needs, refl, refl, reached-none (c .before .args .t .now) 512)
 
-add-fields-at : tie.Need-add-fields-at Inv-loop μ-loop
-add-fields-at c = omega arith
-
-mul-fields-at : tie.Need-mul-fields-at Inv-loop μ-loop
-mul-fields-at c = omega arith
-
-add-fields-at-2 : tie.Need-add-fields-at-2 Inv-loop μ-loop
-add-fields-at-2 c = omega arith
-
-fields-at-requires : tie.Need-fields-at-requires Inv-loop μ-loop
-fields-at-requires c κs = omega arith
-
-form-of-requires : tie.Need-form-of-requires Inv-loop μ-loop
-form-of-requires c κs = tt
-
 sort-of-requires : tie.Need-sort-of-requires Inv-loop μ-loop
 sort-of-requires c κs =
     let head = c .before .before .before .before in
@@ -55,18 +40,6 @@ returns c =
 
 height-of-requires : tie.Need-height-of-requires Inv-loop μ-loop
 height-of-requires c κs = c .before .before .before .before .before .before .before .loop .inv .2
-
-array-write-sorts : tie.Need-array-write-sorts Inv-loop μ-loop
-array-write-sorts c = omega arith
-
-array-write-heights : tie.Need-array-write-heights Inv-loop μ-loop
-array-write-heights c = omega arith
-
-add-i : tie.Need-add-i Inv-loop μ-loop
-add-i c = omega arith
-
-loop-less : tie.Need-loop-less Inv-loop μ-loop
-loop-less c = omega arith
 
 loop-again : tie.Need-loop-again Inv-loop μ-loop
 loop-again c =
@@ -88,23 +61,11 @@ loop-again c =
           (sort .sort-of .ensures) (made .if1 .left) (c .height-of .ensures) (omega arith) (omega arith),
     )
 
-sub-if2 : tie.Need-sub-if2 Inv-loop μ-loop
-sub-if2 c = omega arith
-
-array-read-if2 : tie.Need-array-read-if2 Inv-loop μ-loop
-array-read-if2 c = omega arith
-
 returns-2 : tie.Need-returns-2 Inv-loop μ-loop
 returns-2 c =
     let head = c .before .before in
     root-wrong _ _ _ (head .before .before .pre .0) (head .loop .i) (head .loop .inv .0) (c .before .loop-test .left) _ _ (head .loop .inv .3)
     (head .loop .inv .1) (head .loop .inv .2) (c .if2 .taken)
-
-sub-result : tie.Need-sub-result Inv-loop μ-loop
-sub-result c = omega arith
-
-array-read-result : tie.Need-array-read-result Inv-loop μ-loop
-array-read-result c = omega arith
 
 returns-3 : tie.Need-returns-3 Inv-loop μ-loop
 returns-3 c =
@@ -114,27 +75,15 @@ returns-3 c =
 
 pub tree-depth-spec : {M : Type 1} → statement M
 tree-depth-spec =
-    tie.close
-    (tie.spec
-    Inv-loop
-    μ-loop
+    tie.close (tie.spec Inv-loop μ-loop
     loop-holds
-    add-fields-at
-    mul-fields-at
-    add-fields-at-2
-    fields-at-requires
-    form-of-requires
+    (λ c. omega arith) (λ c. omega arith) (λ c. omega arith) (λ c κs. omega arith) (λ c κs. tt)
     sort-of-requires
     returns
     height-of-requires
-    array-write-sorts
-    array-write-heights
-    add-i
-    loop-less
+    (λ c. omega arith) (λ c. omega arith) (λ c. omega arith) (λ c. omega arith)
     loop-again
-    sub-if2
-    array-read-if2
+    (λ c. omega arith) (λ c. omega arith)
     returns-2
-    sub-result
-    array-read-result
+    (λ c. omega arith) (λ c. omega arith)
     returns-3)

@@ -24,21 +24,6 @@ loop-holds c =
     let a = c .before .args in
     (omega arith, no-child (listAt (a .lists .now)) (a .t .now) (a .at) (a .count) (c .before .pre .few) (a .flags .now))
 
-sub-left : tie.Need-sub-left Inv-loop μ-loop
-sub-left c = omega arith
-
-add-pair : tie.Need-add-pair Inv-loop μ-loop
-add-pair c = omega arith
-
-mul-pair : tie.Need-mul-pair Inv-loop μ-loop
-mul-pair c = omega arith
-
-add-pair-2 : tie.Need-add-pair-2 Inv-loop μ-loop
-add-pair-2 c = omega arith
-
-pair-requires : tie.Need-pair-requires Inv-loop μ-loop
-pair-requires c κs = omega arith
-
 flag-list-requires : tie.Need-flag-list-requires Inv-loop μ-loop
 flag-list-requires c κs =
     let a = c .before .before .before .before .before .args in
@@ -46,9 +31,6 @@ flag-list-requires c κs =
     let j = c .before .before .before .loop .left - 1 in
     let h : j < a .count = omega arith in
     subst (Row 32 (a .lists .now)) (field-at (listAt (a .lists .now)) (a .t .now) (a .at) (a .count) (pre .few) (a .flags .now) j h ∙ sym (c .pair .ensures .0)) (pre .rows j h)
-
-loop-less : tie.Need-loop-less Inv-loop μ-loop
-loop-less c = omega arith
 
 loop-again : tie.Need-loop-again Inv-loop μ-loop
 loop-again c =
@@ -75,17 +57,10 @@ returns c =
 
 pub flag-children-spec : {M : Type 1} → statement M
 flag-children-spec =
-    tie.close
-    (tie.spec
-    Inv-loop
-    μ-loop
+    tie.close (tie.spec Inv-loop μ-loop
     loop-holds
-    sub-left
-    add-pair
-    mul-pair
-    add-pair-2
-    pair-requires
+    (λ c. omega arith) (λ c. omega arith) (λ c. omega arith) (λ c. omega arith) (λ c κs. omega arith)
     flag-list-requires
-    loop-less
+    (λ c. omega arith)
     loop-again
     returns)

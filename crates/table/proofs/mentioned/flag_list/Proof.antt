@@ -27,39 +27,12 @@ entry c = c .before .before .before .before
 low : (c : tie.In-loop Inv-loop μ-loop) → getD (entry c .args .lists .now) (33 * entry c .args .node + 1 + c .before .loop .i) 0 < 32
 low c = entry c .pre .low (c .before .loop .i) (omega arith)
 
-mul-row : tie.Need-mul-row Inv-loop μ-loop
-mul-row c = omega arith
-
-element-copy-out-wide : tie.Need-element-copy-out-wide Inv-loop μ-loop
-element-copy-out-wide c = omega arith
-
-wide-requires : tie.Need-wide-requires Inv-loop μ-loop
-wide-requires c κs = search needs
-
 loop-holds : tie.Need-loop-holds Inv-loop μ-loop
 unfolding flagged
 loop-holds c = (omega arith, refl)
 
-add-wide : tie.Need-add-wide Inv-loop μ-loop
-add-wide c = omega arith
-
-add-wide-2 : tie.Need-add-wide-2 Inv-loop μ-loop
-add-wide-2 c = omega arith
-
-element-copy-out-wide-2 : tie.Need-element-copy-out-wide-2 Inv-loop μ-loop
-element-copy-out-wide-2 c = omega arith
-
-wide-requires-2 : tie.Need-wide-requires-2 Inv-loop μ-loop
-wide-requires-2 c κs = search needs
-
 element-write-flags : tie.Need-element-write-flags Inv-loop μ-loop
 element-write-flags c = omega (arith, low (c .before .before))
-
-add-i : tie.Need-add-i Inv-loop μ-loop
-add-i c = omega arith
-
-loop-less : tie.Need-loop-less Inv-loop μ-loop
-loop-less c = omega arith
 
 loop-again : tie.Need-loop-again Inv-loop μ-loop
 loop-again c =
@@ -82,20 +55,11 @@ returns c =
 
 pub flag-list-spec : {M : Type 1} → statement M
 flag-list-spec =
-    tie.close
-    (tie.spec
-    Inv-loop
-    μ-loop
-    mul-row
-    element-copy-out-wide
-    wide-requires
+    tie.close (tie.spec Inv-loop μ-loop
+    (λ c. omega arith) (λ c. omega arith) (λ c κs. search needs)
     loop-holds
-    add-wide
-    add-wide-2
-    element-copy-out-wide-2
-    wide-requires-2
+    (λ c. omega arith) (λ c. omega arith) (λ c. omega arith) (λ c κs. search needs)
     element-write-flags
-    add-i
-    loop-less
+    (λ c. omega arith) (λ c. omega arith)
     loop-again
     returns)

@@ -79,9 +79,6 @@ shared-slice-read-wide c =
     let h = next-inside (start .args .t .now) (start .args .lists .now) (start .args .n) (start .pre) in
     omega (arith, h, c .before .place-of .ensures)
 
-wide-requires : tie.Need-wide-requires
-wide-requires c κs = search needs
-
 places-of-requires : tie.Need-places-of-requires
 places-of-requires c κs =
     let w = c .before in
@@ -93,9 +90,6 @@ flag-children-requires c κs =
     subst (λ at. Children (t w) (lists w) at (c .places-of .result)) (sym (place-is w))
     (subst (λ k. Children (t w) (lists w) (placeOf (t w) (n w)) k) (sym (count-is c)) (next-children (t w) (lists w) (n w) (entry w .pre)))
 
-names-one-requires : tie.Need-names-one-requires
-names-one-requires c κs = search needs
-
 add-wide : tie.Need-add-wide
 add-wide c =
     let w = read (c .before .before) in
@@ -105,9 +99,6 @@ shared-slice-read-wide-2 : tie.Need-shared-slice-read-wide-2
 shared-slice-read-wide-2 c =
     let w = read (c .before .before .before) in
     omega (arith, next-inside (t w) (lists w) (n w) (entry w .pre), place-is w)
-
-wide-requires-2 : tie.Need-wide-requires-2
-wide-requires-2 c κs = search needs
 
 array-write-flags : tie.Need-array-write-flags
 array-write-flags c =
@@ -128,17 +119,16 @@ returns-2 c =
 
 pub flags-of-spec : {M : Type 1} → statement M
 flags-of-spec =
-    tie.close
-    (tie.spec
+    tie.close (tie.spec
     place-of-requires
     shared-slice-read-wide
-    wide-requires
+    (λ c κs. search needs)
     places-of-requires
     flag-children-requires
-    names-one-requires
+    (λ c κs. search needs)
     add-wide
     shared-slice-read-wide-2
-    wide-requires-2
+    (λ c κs. search needs)
     array-write-flags
     returns
     returns-2)

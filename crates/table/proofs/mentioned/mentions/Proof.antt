@@ -92,10 +92,7 @@ returns c =
 
 pub mentions-spec : {M : Type 1} → statement M
 mentions-spec =
-    tie.close
-    (tie.spec
-    Inv-loop
-    μ-loop
+    tie.close (tie.spec Inv-loop μ-loop
     pair-requires
     pair-requires-2
     loop-holds

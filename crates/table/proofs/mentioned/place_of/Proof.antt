@@ -8,21 +8,9 @@ use borrow.Author.Needs.{needs}
 use Rattle.table.proofs.mentioned.place_of.Statement.{statement}
 use Rattle.table.proofs.mentioned.place_of.Tie as tie
 
-pair-requires : tie.Need-pair-requires
-pair-requires c κs = search needs
-
-add-result : tie.Need-add-result
-add-result c = search needs
-
-mul-result : tie.Need-mul-result
-mul-result c = search needs
-
-add-result-2 : tie.Need-add-result-2
-add-result-2 c = search needs
-
 returns : tie.Need-returns
 unfolding placeOf variables
 returns c = ap (λ (k : ℕ). 16 + k + 8 * c .before .before .args .n) (c .pair .ensures .0)
 
 pub place-of-spec : {M : Type 1} → statement M
-place-of-spec = tie.close (tie.spec pair-requires add-result mul-result add-result-2 returns)
+place-of-spec = tie.close (tie.spec (λ c κs. search needs) (λ c. search needs) (λ c. search needs) (λ c. search needs) returns)

@@ -24,35 +24,8 @@ all c = search needs
 enough : (c : tie.Start Inv-loop μ-loop) → c .args .bound ≤ length (c .args .t3)
 enough c = omega (arith, all c)
 
-mul-row : tie.Need-mul-row Inv-loop μ-loop
-mul-row c = omega arith
-
 loop-holds : tie.Need-loop-holds Inv-loop μ-loop
 loop-holds c = laying-none (c .args .lists .now) (c .args .n) (c .args .t3) (c .args .bound) (enough c)
-
-array-read-if1 : tie.Need-array-read-if1 Inv-loop μ-loop
-array-read-if1 c = omega arith
-
-cast-lists : tie.Need-cast-lists Inv-loop μ-loop
-cast-lists c = omega arith
-
-add-lists : tie.Need-add-lists Inv-loop μ-loop
-add-lists c = omega arith
-
-add-lists-2 : tie.Need-add-lists-2 Inv-loop μ-loop
-add-lists-2 c = omega arith
-
-element-write-lists : tie.Need-element-write-lists Inv-loop μ-loop
-element-write-lists c = omega arith
-
-add-count : tie.Need-add-count Inv-loop μ-loop
-add-count c = omega arith
-
-add-v : tie.Need-add-v Inv-loop μ-loop
-add-v c = omega arith
-
-loop-less : tie.Need-loop-less Inv-loop μ-loop
-loop-less c = omega arith
 
 loop-again : tie.Need-loop-again Inv-loop μ-loop
 loop-again c =
@@ -65,12 +38,6 @@ loop-again c =
     (λ w. rw (w .1, w .2) (laying-pass (a .lists .now) (a .n) (a .t3) (a .bound) (enough start) (l .lists) (l .count) (l .v) (l .inv) h (w .0 .left)))
     (c .if1 .came)
 
-cast-lists-2 : tie.Need-cast-lists-2 Inv-loop μ-loop
-cast-lists-2 c = omega arith
-
-element-write-lists-2 : tie.Need-element-write-lists-2 Inv-loop μ-loop
-element-write-lists-2 c = omega arith
-
 returns : tie.Need-returns Inv-loop μ-loop
 returns c =
     let start = c .before .before in
@@ -80,21 +47,11 @@ returns c =
 
 pub write-list-spec : {M : Type 1} → statement M
 write-list-spec =
-    tie.close
-    (tie.spec
-    Inv-loop
-    μ-loop
-    mul-row
+    tie.close (tie.spec Inv-loop μ-loop
+    (λ c. omega arith)
     loop-holds
-    array-read-if1
-    cast-lists
-    add-lists
-    add-lists-2
-    element-write-lists
-    add-count
-    add-v
-    loop-less
+    (λ c. omega arith) (λ c. omega arith) (λ c. omega arith) (λ c. omega arith) (λ c. omega arith)
+    (λ c. omega arith) (λ c. omega arith) (λ c. omega arith)
     loop-again
-    cast-lists-2
-    element-write-lists-2
+    (λ c. omega arith) (λ c. omega arith)
     returns)

@@ -25,12 +25,6 @@ returns-3 c =
       search needs,
     )
 
-element-copy-out-wide : tie.Need-element-copy-out-wide
-element-copy-out-wide c = search needs
-
-wide-requires : tie.Need-wide-requires
-wide-requires c κs = search needs
-
 returns-4 : tie.Need-returns-4
 unfolding childHeight
 returns-4 c =
@@ -39,4 +33,4 @@ returns-4 c =
 
 pub child-height-spec : {M : Type 1} → statement M
 child-height-spec =
-    tie.close (tie.spec returns returns-2 returns-3 element-copy-out-wide wide-requires returns-4)
+    tie.close (tie.spec returns returns-2 returns-3 (λ c. search needs) (λ c κs. search needs) returns-4)

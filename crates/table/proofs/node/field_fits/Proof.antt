@@ -25,9 +25,6 @@ returns-3 c =
     simp (ne-eqb _ 4 (c .before .before .if1 .left), ne-eqb _ 3 (c .before .if2 .left))
     (rw (past (args .sorts .now) (args .x) 3 (omega arith)) (sym (ne-eqb 3 _ (λ e. c .before .if2 .left (sym e)))))
 
-element-copy-out-result : tie.Need-element-copy-out-result
-element-copy-out-result c = search needs
-
 returns-4 : tie.Need-returns-4
 unfolding fieldFits
 returns-4 c =
@@ -37,4 +34,4 @@ returns-4 c =
 
 pub field-fits-spec : {M : Type 1} → statement M
 field-fits-spec =
-    tie.close (tie.spec returns returns-2 returns-3 element-copy-out-result returns-4)
+    tie.close (tie.spec returns returns-2 returns-3 (λ c. search needs) returns-4)

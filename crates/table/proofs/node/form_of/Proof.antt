@@ -9,48 +9,6 @@ use Rattle.table.specs.Laws.Nodes.{no-kind}
 use Rattle.table.proofs.node.form_of.Statement.{statement}
 use Rattle.table.proofs.node.form_of.Tie as tie
 
-asks-requires : tie.Need-asks-requires
-asks-requires c κs = search needs
-
-asks-requires-2 : tie.Need-asks-requires-2
-asks-requires-2 c κs = search needs
-
-asks-requires-3 : tie.Need-asks-requires-3
-asks-requires-3 c κs = search needs
-
-asks-requires-4 : tie.Need-asks-requires-4
-asks-requires-4 c κs = search needs
-
-asks-requires-5 : tie.Need-asks-requires-5
-asks-requires-5 c κs = search needs
-
-asks-requires-6 : tie.Need-asks-requires-6
-asks-requires-6 c κs = search needs
-
-asks-requires-7 : tie.Need-asks-requires-7
-asks-requires-7 c κs = search needs
-
-asks-requires-8 : tie.Need-asks-requires-8
-asks-requires-8 c κs = search needs
-
-asks-requires-9 : tie.Need-asks-requires-9
-asks-requires-9 c κs = search needs
-
-asks-requires-10 : tie.Need-asks-requires-10
-asks-requires-10 c κs = search needs
-
-asks-requires-11 : tie.Need-asks-requires-11
-asks-requires-11 c κs = search needs
-
-asks-requires-12 : tie.Need-asks-requires-12
-asks-requires-12 c κs = search needs
-
-asks-requires-13 : tie.Need-asks-requires-13
-asks-requires-13 c κs = search needs
-
-asks-requires-14 : tie.Need-asks-requires-14
-asks-requires-14 c κs = search needs
-
 returns : tie.Need-returns
 unfolding form kinds kindOf gives
 returns c = c .asks .ensures ∙ rw (c .before .match .keys1)
@@ -109,22 +67,11 @@ returns-14 c = c .asks14 .ensures ∙ rw (no-kind (c .before .before .args .kind
 
 pub form-of-spec : {M : Type 1} → statement M
 form-of-spec =
-    tie.close
-    (tie.spec
-    asks-requires
-    asks-requires-2
-    asks-requires-3
-    asks-requires-4
-    asks-requires-5
-    asks-requires-6
-    asks-requires-7
-    asks-requires-8
-    asks-requires-9
-    asks-requires-10
-    asks-requires-11
-    asks-requires-12
-    asks-requires-13
-    asks-requires-14
+    tie.close (tie.spec
+    (λ c κs. search needs) (λ c κs. search needs) (λ c κs. search needs) (λ c κs. search needs)
+    (λ c κs. search needs) (λ c κs. search needs) (λ c κs. search needs) (λ c κs. search needs)
+    (λ c κs. search needs) (λ c κs. search needs) (λ c κs. search needs) (λ c κs. search needs)
+    (λ c κs. search needs) (λ c κs. search needs)
     returns
     returns-2
     returns-3

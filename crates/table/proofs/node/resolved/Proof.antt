@@ -6,12 +6,6 @@ use Rattle.table.specs.Sorts.{typed}
 use Rattle.table.proofs.node.resolved.Statement.{statement}
 use Rattle.table.proofs.node.resolved.Tie as tie
 
-add-result : tie.Need-add-result
-add-result c = search needs
-
-shared-slice-read-result : tie.Need-shared-slice-read-result
-shared-slice-read-result c = search needs
-
 returns : tie.Need-returns
 unfolding typed
 returns c = simp (eq-eqb _ 5 (c .before .if1 .taken))
@@ -21,4 +15,4 @@ unfolding typed
 returns-2 c = simp (ne-eqb _ 5 (c .if1 .left))
 
 pub resolved-spec : {M : Type 1} → statement M
-resolved-spec = tie.close (tie.spec add-result shared-slice-read-result returns returns-2)
+resolved-spec = tie.close (tie.spec (λ c. search needs) (λ c. search needs) returns returns-2)

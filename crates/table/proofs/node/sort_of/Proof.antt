@@ -8,9 +8,6 @@ use Rattle.table.specs.Laws.Sorts.{tag-wrong, first-wrong, second-wrong,
 use Rattle.table.proofs.node.sort_of.Statement.{statement}
 use Rattle.table.proofs.node.sort_of.Tie as tie
 
-tag-fits-requires : tie.Need-tag-fits-requires
-tag-fits-requires c κs = search needs
-
 returns : tie.Need-returns
 returns c = tag-wrong _ _ _ _ _ (sym (c .before .tag-fits .ensures) ∙ not-true _ (c .if1 .taken))
 
@@ -19,21 +16,12 @@ resolved-requires c κs =
     let known = c .before .before .before .pre in
     tag-low _ _ _ _ (known .2) (known .0) (known .1) (sym (c .before .tag-fits .ensures) ∙ not-false _ (c .if1 .left))
 
-field-fits-requires : tie.Need-field-fits-requires
-field-fits-requires c κs = search needs
-
 returns-2 : tie.Need-returns-2
 returns-2 c =
     first-wrong _ _ _ _ _ _ (c .before .before .resolved .ensures) (sym (c .before .field-fits .ensures) ∙ not-true _ (c .if2 .taken))
 
-field-fits-requires-2 : tie.Need-field-fits-requires-2
-field-fits-requires-2 c κs = search needs
-
 returns-3 : tie.Need-returns-3
 returns-3 c = second-wrong _ _ _ _ _ (sym (c .before .field-fits2 .ensures) ∙ not-true _ (c .if3 .taken))
-
-field-fits-requires-3 : tie.Need-field-fits-requires-3
-field-fits-requires-3 c κs = search needs
 
 returns-4 : tie.Need-returns-4
 returns-4 c = third-wrong _ _ _ _ _ (sym (c .before .field-fits3 .ensures) ∙ not-true _ (c .if4 .taken))
@@ -60,16 +48,15 @@ returns-5 c =
 
 pub sort-of-spec : {M : Type 1} → statement M
 sort-of-spec =
-    tie.close
-    (tie.spec
-    tag-fits-requires
+    tie.close (tie.spec
+    (λ c κs. search needs)
     returns
     resolved-requires
-    field-fits-requires
+    (λ c κs. search needs)
     returns-2
-    field-fits-requires-2
+    (λ c κs. search needs)
     returns-3
-    field-fits-requires-3
+    (λ c κs. search needs)
     returns-4
     resolved-requires-2
     returns-5)

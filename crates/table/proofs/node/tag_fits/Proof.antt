@@ -12,12 +12,9 @@ returns : tie.Need-returns
 unfolding tagFits
 returns c = simp (eq-eqb _ 3 (c .if1 .taken))
 
-wide-requires : tie.Need-wide-requires
-wide-requires c κs = search needs
-
 returns-2 : tie.Need-returns-2
 unfolding tagFits
 returns-2 c = simp (ne-eqb _ 3 (c .before .if1 .left)) (ap (ltb (c .before .before .args .tag)) (c .wide .ensures .0))
 
 pub tag-fits-spec : {M : Type 1} → statement M
-tag-fits-spec = tie.close (tie.spec returns wide-requires returns-2)
+tag-fits-spec = tie.close (tie.spec returns (λ c κs. search needs) returns-2)

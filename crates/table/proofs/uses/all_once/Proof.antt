@@ -17,17 +17,8 @@ abbrev μ-loop : tie.MeasureT-loop
 loop-holds : tie.Need-loop-holds Inv-loop μ-loop
 loop-holds c = (omega arith, refl)
 
-sub-i : tie.Need-sub-i Inv-loop μ-loop
-sub-i c = omega arith
-
-element-copy-out-if1 : tie.Need-element-copy-out-if1 Inv-loop μ-loop
-element-copy-out-if1 c = omega arith
-
 returns : tie.Need-returns Inv-loop μ-loop
 returns c = let d = c .before .before .before in once-wrong (d .loop .i) _ (c .before .before .loop-test .taken) (c .if1 .taken) ∙ sym (d .loop .inv .1)
-
-loop-less : tie.Need-loop-less Inv-loop μ-loop
-loop-less c = omega arith
 
 loop-again : tie.Need-loop-again Inv-loop μ-loop
 loop-again c = let d = c .before .before .before in (omega arith, d .loop .inv .1 ∙ once-right (d .loop .i) _ (c .before .before .loop-test .taken) (c .if1 .left))
@@ -37,14 +28,10 @@ returns-2 c = once-none (c .before .loop .i) _ (c .loop-test .left) ∙ sym (c .
 
 pub all-once-spec : {M : Type 1} → statement M
 all-once-spec =
-    tie.close
-    (tie.spec
-    Inv-loop
-    μ-loop
+    tie.close (tie.spec Inv-loop μ-loop
     loop-holds
-    sub-i
-    element-copy-out-if1
+    (λ c. omega arith) (λ c. omega arith)
     returns
-    loop-less
+    (λ c. omega arith)
     loop-again
     returns-2)

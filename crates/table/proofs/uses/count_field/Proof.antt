@@ -14,15 +14,6 @@ returns-2 c = field-unused _ _ _ (c .before .if1 .left) (c .if2 .taken)
 returns-3 : tie.Need-returns-3
 returns-3 c = field-far _ _ _ (c .before .before .if1 .left) (c .before .if2 .left) (c .if3 .taken)
 
-element-copy-out-more : tie.Need-element-copy-out-more
-element-copy-out-more c = search needs
-
-more-requires : tie.Need-more-requires
-more-requires c κs = search needs
-
-element-write-counts : tie.Need-element-write-counts
-element-write-counts c = search needs
-
 returns-4 : tie.Need-returns-4
 returns-4 c =
     let third = c .before .before in
@@ -31,12 +22,9 @@ returns-4 c =
 
 pub count-field-spec : {M : Type 1} → statement M
 count-field-spec =
-    tie.close
-    (tie.spec
+    tie.close (tie.spec
     returns
     returns-2
     returns-3
-    element-copy-out-more
-    more-requires
-    element-write-counts
+    (λ c. search needs) (λ c κs. search needs) (λ c. search needs)
     returns-4)

@@ -16,29 +16,8 @@ abbrev μ-loop : tie.MeasureT-loop
 loop-holds : tie.Need-loop-holds Inv-loop μ-loop
 loop-holds c = (search needs, left-all (c .before .args .t .now))
 
-add-fields-at : tie.Need-add-fields-at Inv-loop μ-loop
-add-fields-at c = omega arith
-
-mul-fields-at : tie.Need-mul-fields-at Inv-loop μ-loop
-mul-fields-at c = omega arith
-
-add-fields-at-2 : tie.Need-add-fields-at-2 Inv-loop μ-loop
-add-fields-at-2 c = omega arith
-
-fields-at-requires : tie.Need-fields-at-requires Inv-loop μ-loop
-fields-at-requires c κs = omega arith
-
-form-of-requires : tie.Need-form-of-requires Inv-loop μ-loop
-form-of-requires c κs = tt
-
 count-node-requires : tie.Need-count-node-requires Inv-loop μ-loop
 count-node-requires c κs = c .before .before .before .before .loop .inv .1 .long
-
-add-i : tie.Need-add-i Inv-loop μ-loop
-add-i c = omega arith
-
-loop-less : tie.Need-loop-less Inv-loop μ-loop
-loop-less c = omega arith
 
 loop-again : tie.Need-loop-again Inv-loop μ-loop
 loop-again c =
@@ -48,9 +27,6 @@ loop-again c =
       left-less _ _ _ (head .before .before .pre) (head .loop .i) (test .loop-test .taken) _ _ (head .loop .inv .1) _ (c .before .before .before .fields-at .ensures) _
           (c .before .before .form-of .ensures) (c .count-node .ensures),
     )
-
-sub-all-once : tie.Need-sub-all-once Inv-loop μ-loop
-sub-all-once c = omega arith
 
 all-once-requires : tie.Need-all-once-requires Inv-loop μ-loop
 all-once-requires c κs = let few = c .before .before .before .before .pre .n-few in (c .before .before .loop .inv .1 .long, omega arith)
@@ -63,20 +39,12 @@ returns c =
 
 pub used-once-spec : {M : Type 1} → statement M
 used-once-spec =
-    tie.close
-    (tie.spec
-    Inv-loop
-    μ-loop
+    tie.close (tie.spec Inv-loop μ-loop
     loop-holds
-    add-fields-at
-    mul-fields-at
-    add-fields-at-2
-    fields-at-requires
-    form-of-requires
+    (λ c. omega arith) (λ c. omega arith) (λ c. omega arith) (λ c κs. omega arith) (λ c κs. tt)
     count-node-requires
-    add-i
-    loop-less
+    (λ c. omega arith) (λ c. omega arith)
     loop-again
-    sub-all-once
+    (λ c. omega arith)
     all-once-requires
     returns)

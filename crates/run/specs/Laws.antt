@@ -1,11 +1,16 @@
 pub mod Branches
 pub mod Calls
+pub mod Completed
 pub mod Compound
 pub mod Expressions
 pub mod Fitting
+pub mod Iterations
 pub mod Laying
 pub mod Listing
 pub mod Loops
 pub mod Numbers
+pub mod Operators
 pub mod Sequences
 pub mod Statements
+pub mod Taken
+pub mod Tests

@@ -17,30 +17,30 @@ use Rattle.numbers.specs.Lay.{lay, length-lay, lay-take, lay-to-end, lay-inside
 use Rattle.rules.specs.Value.{zeros, padded, mostVariables}
 
 -- the buffer with the first i of the words laid from the place on
-abbrev pub Laid : List ℤ → ℕ → List ℤ → ℕ → List ℤ → Type 0
-Laid out₀ at ws i out = out ≡ lay out₀ at (take i ws)
+pub record Laid (out₀ : List ℤ) (at : ℕ) (ws : List ℤ) (i : ℕ) (out : List ℤ) : Type 0 where
+  pub is : out ≡ lay out₀ at (take i ws)
 
-module _ (out₀ : List ℤ) (at : ℕ) (ws : List ℤ) where
+module _ {out₀ : List ℤ} {at : ℕ} {ws : List ℤ} where
   pub laid-none : Laid out₀ at ws 0 out₀
   unfolding lay
-  laid-none = refl
+  laid-none = record { is = refl }
 
-  pub laid-more : (i : ℕ) (d : ℤ) {out : List ℤ} → Laid out₀ at ws i out → i < length ws
-      → Laid out₀ at ws (i + 1) (set out (at + i) (getD ws i d))
-  laid-more i d laid below =
-      ap (λ (l : List ℤ). set l (at + i) (getD ws i d)) laid
-      ∙ sym (lay-take out₀ at ws i d below) ∙ ap (λ (n : ℕ). lay out₀ at (take n ws)) (sym (add-one i))
+  pub laid-more : {i : ℕ} (d : ℤ) {out : List ℤ} → Laid out₀ at ws i out → i < length ws → Laid out₀ at ws (i + 1) (set out (at + i) (getD ws i d))
+  laid-more {i} d laid below = record {
+    is = ap (λ (l : List ℤ). set l (at + i) (getD ws i d)) (laid .is)
+        ∙ sym (lay-take out₀ at ws i d below) ∙ ap (λ (n : ℕ). lay out₀ at (take n ws)) (sym (add-one i));
+  }
 
   -- the word passed to another function
-  pub laid-by : (i : ℕ) (d w : ℤ) {out next : List ℤ} → Laid out₀ at ws i out → i < length ws → w ≡ getD ws i d → SFits w64 w
+  pub laid-by : {i : ℕ} (d : ℤ) {w : ℤ} {out next : List ℤ} → Laid out₀ at ws i out → i < length ws → w ≡ getD ws i d → SFits w64 w
       → next ≡ set out (at + i) (toZ w64 (ofZ w64 w)) → Laid out₀ at ws (i + 1) next
-  laid-by i d w {out} laid below is fits e = e ∙ ap (set out (at + i)) (toZ-ofZ w64 w fits ∙ is) ∙ laid-more i d laid below
+  laid-by {i} d {w} {out} laid below is fits e = record { is = e ∙ ap (set out (at + i)) (toZ-ofZ w64 w fits ∙ is) ∙ laid-more d laid below .is }
 
-  pub laid-all : (i : ℕ) {out : List ℤ} → Laid out₀ at ws i out → length ws ≤ i → out ≡ lay out₀ at ws
-  laid-all i laid past = laid ∙ ap (lay out₀ at) (take-all i ws past)
+  pub laid-all : {i : ℕ} {out : List ℤ} → Laid out₀ at ws i out → length ws ≤ i → out ≡ lay out₀ at ws
+  laid-all {i} laid past = laid .is ∙ ap (lay out₀ at) (take-all i ws past)
 
-  pub laid-long : (i : ℕ) {out : List ℤ} → Laid out₀ at ws i out → length out ≡ length out₀
-  laid-long i laid = ap length laid ∙ length-lay out₀ at (take i ws)
+  pub laid-long : {i : ℕ} {out : List ℤ} → Laid out₀ at ws i out → length out ≡ length out₀
+  laid-long {i} laid = ap length (laid .is) ∙ length-lay out₀ at (take i ws)
 
 -- ---- zeros to the end
 
@@ -60,7 +60,7 @@ module _ (out₀ : List ℤ) (from : ℕ) where
   pub cleared-none : Cleared out₀ from from out₀
   cleared-none =
       let none : from - from ≡ 0 = omega arith in
-      rw none (laid-none out₀ from (rest out₀ from))
+      rw none laid-none
 
   pub cleared-more : (i : ℕ) {out : List ℤ} → Cleared out₀ from i out → from ≤ i → i < length out₀
       → Cleared out₀ from (i + 1) (set out i (pos 0))
@@ -69,11 +69,11 @@ module _ (out₀ : List ℤ) (from : ℕ) where
       let place : from + (i - from) ≡ i = omega arith in
       let next : (i - from) + 1 ≡ i + 1 - from = omega arith in
       let word : getD (rest out₀ from) (i - from) (pos 0) ≡ pos 0 = getD-replicate (length out₀ - from) (i - from) (pos 0) (pos 0) (omega arith) in
-      rw (place, next, word) at (laid-more out₀ from (rest out₀ from) (i - from) (pos 0) laid (omega (arith, rest-long out₀ from)))
+      rw (place, next, word) at (laid-more (pos 0) laid (omega (arith, rest-long out₀ from)))
 
   pub cleared-all : (i : ℕ) {out : List ℤ} → Cleared out₀ from i out → length out₀ ≤ i → out ≡ take from out₀ ++ zeros (length out₀ - from)
   cleared-all i laid past =
-      laid-all out₀ from (rest out₀ from) (i - from) laid (omega (arith, rest-long out₀ from))
+      laid-all laid (omega (arith, rest-long out₀ from))
       ∙ lay-to-end out₀ from (rest out₀ from) (rest-long out₀ from)
 
 -- ---- words followed by zeros

@@ -2,39 +2,36 @@
 -- from the answers of the calls.
 -- Assumes nothing.
 use mathlib.Core.Path.{_≡_, refl, sym, ap, ap₂, _∙_, subst}
-use mathlib.Core.Logic.{_⊎_, inl, inr}
-use Prim.Native.Nat.{ℕ, zero, suc, _+_, _-_, _*_, _≤_, _<_}
+use Prim.Native.Nat.{ℕ, suc, _+_, _-_, _*_, _≤_, _<_}
 use native.Mathlib.Omega.{arith}
 use native.Mathlib.Nat.{add-zero}
 use native.Mathlib.Numerals.{add-one}
-use mathlib.Core.Bool.{Bool, true, false}
-use mathlib.Core.Option.{Option, some}
-use mathlib.Core.List.{List, [], _∷_, _++_}
-use lib.ListN.{length, getD, take, drop, set, length-append}
+use mathlib.Core.Option.{some}
+use mathlib.Core.List.{List, _∷_}
+use lib.ListN.{length, take, set}
 use lib.IntN.{ℤ, pos}
-use Rattle.numbers.specs.Lay.{lay, lay-append, lay-before, set-lay}
-use Rattle.rules.specs.Outcome.{accepted, refused, _>>=_, choose, fuelSpent}
+use Rattle.numbers.specs.Lay.{lay, set-lay}
+use Rattle.rules.specs.Outcome.{accepted, _>>=_, fuelSpent}
 use Rattle.rules.specs.Outcome as Paper
-use Rattle.rules.specs.Value.{Ty, typeOf, snapshot}
-use Rattle.rules.specs.Tree.{Expression, Statement, nodeOf, mentions}
-use Rattle.rules.specs.Table.{Node, readNode, Kind, numberConstant, truthConstant, variable, operator, skip, assign, sequence, if, repeat, typesOf, Part, expression, statement}
-use Rattle.rules.specs.Run.{Valued, Done, evaluate, entry, enter, holds, times, iterate, ifWords, repeatWords, run}
-use Rattle.rules.specs.Laws.Mentions.{_⊆_, sequence-first, sequence-second, if-then, if-else, repeat-body}
-use Rattle.rules.specs.Laws.Parts.{no-expression, statement-of, numberOfKind, nodeAt, partAt, partsOf, Built, Stands, stands, child-at}
-use Rattle.rules.specs.Laws.Size.{weight, fewOperators, Small}
-use Rattle.rules.specs.Laws.Entry.{Fine, run-dry}
+use Rattle.rules.specs.Tree.{Statement, nodeOf}
+use Rattle.rules.specs.Table.{Kind, numberConstant, truthConstant, variable, operator, skip, assign, sequence, if, repeat, typesOf, statement}
+use Rattle.rules.specs.Run.{Done, entry, enter, run}
+use Rattle.rules.specs.Laws.Parts.{no-expression, statement-of, numberOfKind, nodeAt, partAt, partsOf, Built, stands}
+use Rattle.rules.specs.Laws.Size.{weight}
+use Rattle.rules.specs.Laws.Entry.{run-dry}
 use Rattle.rules.specs.Laws.Inside.{inside, run-inside}
 use Rattle.table.specs.Paper.{refusalFor}
 use Rattle.table.specs.declared.answer.Refusal.{Refusal}
 use Rattle.table.specs.declared.answer.Outcome.the-variants.{Accepted, Refused}
 use Rattle.run.specs.declared.statement.Ran.{Ran}
-use Rattle.run.specs.Code.{farthest, Evaluable}
-use Rattle.run.specs.Statement.{EndedAs, RanAs, RunsTo, PartsTo, Opened, Known, Runnable, Inner, Enterable}
-use Rattle.run.proofs.Statements.{built, for-statement, listed-at, bounded, RunGot, run-got, run-refused}
+use Rattle.run.specs.Code.{farthest}
+use Rattle.run.specs.Statement.{RanAs, RunsTo, PartsTo, Opened, Known, Runnable, Inner}
+use Rattle.run.specs.Laws.Expressions.{nodeRead}
+use Rattle.run.specs.Laws.Statements.{built, read-field, for-statement, for-parts, listed-at, bounded, RunGot, run-got, run-refused}
 
 -- ---- a statement's kind and node
 
-module _ (bytes : List ℕ) (base : ℕ) (lists : List ℕ) (node : ℕ) (values : List ℤ) (k : Known bytes base lists node values) where
+module _ {bytes : List ℕ} {base : ℕ} {lists : List ℕ} {node : ℕ} {values : List ℤ} (k : Known bytes base lists node values) where
   open Known k using (program, checked, tree, here)
 
   named-by : (kd : Kind) → Built (typesOf bytes) (take node (partsOf bytes)) node (nodeAt bytes node) kd (statement tree) → nodeOf tree ≡ node
@@ -65,10 +62,12 @@ module _ (bytes : List ℕ) (base : ℕ) (lists : List ℕ) (node : ℕ) (values
   last-by if e b a₁ a₂ a₃ a₄ = absurd (a₄ e)
   last-by repeat e b a₁ a₂ a₃ a₄ = e
 
-  -- a statement that is none of the first four kinds is a repeat
-  pub last-kind : (nodeAt bytes node .kind ≡ 16 → ⊥) → (nodeAt bytes node .kind ≡ 17 → ⊥) → (nodeAt bytes node .kind ≡ 18 → ⊥) → (nodeAt bytes node .kind ≡ 19 → ⊥)
-      → nodeAt bytes node .kind ≡ 20
-  last-kind = let s = stands bytes program checked node (statement tree) here in last-by (s .kind) (s .number) (s .built)
+  -- a statement that was read as none of the first four kinds is a repeat
+  pub last-kind : {n : ℕ} → n ≡ nodeRead bytes base node .kind → (n ≡ 16 → ⊥) → (n ≡ 17 → ⊥) → (n ≡ 18 → ⊥) → (n ≡ 19 → ⊥) → nodeAt bytes node .kind ≡ 20
+  last-kind {n} read a₁ a₂ a₃ a₄ =
+      let s = stands bytes program checked node (statement tree) here in
+      let same : n ≡ nodeAt bytes node .kind = read-field k (λ n. n .kind) read in
+      last-by (s .kind) (s .number) (s .built) (λ e. a₁ (same ∙ e)) (λ e. a₂ (same ∙ e)) (λ e. a₃ (same ∙ e)) (λ e. a₄ (same ∙ e))
 
 -- ---- a statement: a step, the parts, the opening words
 
@@ -83,13 +82,13 @@ three-before out words at x y z =
     ∙ ap₂ {C = List ℤ} (λ (i j : ℕ). lay (set (set (set out at x) i y) j z) (at + 3) words) (add-one at) two
     ∙ ap (λ (i : ℕ). lay (set (set (set out at x) (suc at) y) (suc (suc at)) z) i words) three
 
-module _ (bytes : List ℕ) (base : ℕ) (lists : List ℕ) (node : ℕ) (values : List ℤ) (left at : ℕ) (h : Runnable bytes base lists node values left at) where
+module _ {bytes : List ℕ} {base : ℕ} {lists : List ℕ} {node : ℕ} {values : List ℤ} {left at : ℕ} (h : Runnable bytes base lists node values left at) where
   open Known (h .known) using (tree)
 
   -- with the limit used up it is 9
   pub dry : left ≡ 0 → (r : Ran) → r .outcome ≡ Refused (refusalFor fuelSpent) → (out after : List ℤ)
       → (s : Statement) → partAt bytes node ≡ some (statement s) → RanAs (run s left values) r out left at after
-  dry e r f out after = for-statement bytes base lists node values (h .known) (λ s. RanAs (run s left values) r out left at after)
+  dry e r f out after = for-statement (h .known) (λ s. RanAs (run s left values) r out left at after)
       (subst (λ (m : Paper.Outcome Done). RanAs m r out left at after) (sym (ap (λ (n : ℕ). run tree n values) e ∙ run-dry tree values)) f)
 
   pub inner-of : (left ≡ 0 → ⊥) → Inner bytes base lists node values (left - 1) (at + 3)
@@ -100,27 +99,31 @@ module _ (bytes : List ℕ) (base : ℕ) (lists : List ℕ) (node : ℕ) (values
   entered : (left ≡ 0 → ⊥) → run tree left values ≡ enter node (suc (left - 1)) (inside tree values)
   entered has =
       let same : left ≡ suc (left - 1) = omega arith in
-      run-inside tree left values ∙ ap₂ {C = Paper.Outcome Done} (λ (n l : ℕ). enter n l (inside tree values)) (named bytes base lists node values (h .known)) same
+      run-inside tree left values ∙ ap₂ {C = Paper.Outcome Done} (λ (n l : ℕ). enter n l (inside tree values)) (named (h .known)) same
 
-  pub entry-refused : (has : left ≡ 0 → ⊥) (r : Ran) (q : Refusal) (out after after′ : List ℤ) → PartsTo bytes node values (left - 1) r out (at + 3) after → r .outcome ≡ Refused q
-      → (s : Statement) → partAt bytes node ≡ some (statement s) → RanAs (run s left values) r out left at after′
+  pub entry-refused : (has : left ≡ 0 → ⊥) (r : Ran) (out after : List ℤ) → PartsTo bytes node values (left - 1) r out (at + 3) after → {q : Refusal} → r .outcome ≡ Refused q
+      → (after′ : List ℤ) → RunsTo bytes node values left r out at after′
   unfolding enter
-  entry-refused has r q out after after′ p e = for-statement bytes base lists node values (h .known) (λ s. RanAs (run s left values) r out left at after′)
+  entry-refused has r out after p {q} e after′ = for-statement (h .known) (λ s. RanAs (run s left values) r out left at after′)
       (subst (λ (m : Paper.Outcome Done). RanAs m r out left at after′) (sym (entered has))
       (run-refused (inside tree values (left - 1)) _ r q out out (left - 1) left (at + 3) at after after′ (p tree (h .known .here)) e))
 
-  module _ (has : left ≡ 0 → ⊥) (r : Ran) (out one : List ℤ) (p : PartsTo bytes node values (left - 1) r out (at + 3) one) (e : r .outcome ≡ Accepted) where
-    got-parts : RunGot (inside tree values (left - 1)) r out (left - 1) (at + 3) one
-    got-parts = run-got (inside tree values (left - 1)) r out (left - 1) (at + 3) one (p tree (h .known .here)) e
+  -- the parts' end
+  abbrev pub GotParts : Ran → List ℤ → List ℤ → Type 0
+  GotParts r out one = RunGot (inside tree values (left - 1)) r out (left - 1) (at + 3) one
 
+  pub got-parts : (r : Ran) (out one : List ℤ) → PartsTo bytes node values (left - 1) r out (at + 3) one → r .outcome ≡ Accepted → GotParts r out one
+  got-parts r out one p e = run-got (inside tree values (left - 1)) r out (left - 1) (at + 3) one (p tree (h .known .here)) e
+
+  module _ (has : left ≡ 0 → ⊥) {r : Ran} {out one : List ℤ} (got : GotParts r out one) where
     pub parts-place : at + 3 ≤ r .at
-    parts-place = omega (arith, got-parts .ended .ends)
+    parts-place = omega (arith, got .ended .ends)
 
     pub parts-left : r .left ≤ left - 1
-    parts-left = omega (arith, got-parts .ended .leaves)
+    parts-left = omega (arith, got .ended .leaves)
 
     abbrev ended : Done
-    ended = record { store = got-parts .done .store; steps = suc (got-parts .done .steps); words = entry node (suc (got-parts .done .steps)) (got-parts .done .words) }
+    ended = record { store = got .done .store; steps = suc (got .done .steps); words = entry node (suc (got .done .steps)) (got .done .words) }
 
     whole : run tree left values ≡ accepted ended
     unfolding enter
@@ -128,15 +131,15 @@ module _ (bytes : List ℕ) (base : ℕ) (lists : List ℕ) (node : ℕ) (values
       store = g .store;
       steps = suc (g .steps);
       words = entry node (suc (g .steps)) (g .words);
-    })) (got-parts .comes)
+    })) (got .comes)
 
     -- node, size and steps are words
     pub entry-openable : (at + 2 ≤ farthest) × ((node ≤ farthest) × ((r .at - at ≤ farthest) × (left - r .left ≤ farthest)))
     unfolding entry
     entry-openable =
-        let f = got-parts .ended in
-        let b : length (ended .words) + 32 ≤ weight * suc (got-parts .done .steps) = bounded bytes base lists node values (h .known) left ended whole in
-        let low : node < 512 = listed-at bytes base lists node values (h .known) at (omega (arith, h .near)) .inside in
+        let f = got .ended in
+        let b : length (ended .words) + 32 ≤ weight * suc (got .done .steps) = bounded (h .known) left ended whole in
+        let low : node < 512 = listed-at (h .known) at (omega (arith, h .near)) .inside in
         let place : at + 2 ≤ farthest = omega (arith, h .near, has) in
         let number : node ≤ farthest = omega arith in
         let size : r .at - at ≤ farthest = omega (arith, h .near, f .ends, f .leaves, has) in
@@ -146,8 +149,8 @@ module _ (bytes : List ℕ) (base : ℕ) (lists : List ℕ) (node : ℕ) (values
     pub entry-answer : (two : List ℤ) → Opened one at node (r .at - at) (left - r .left) two → RunsTo bytes node values left r out at two
     unfolding entry
     entry-answer two o =
-        let d = got-parts .done in
-        let f = got-parts .ended in
+        let d = got .done in
+        let f = got .ended in
         let size : r .at - at ≡ 3 + length (d .words) = omega (arith, f .ends) in
         let steps : left - r .left ≡ suc (d .steps) = omega (arith, f .leaves, has) in
         let laid : two ≡ lay out at (entry node (suc (d .steps)) (d .words))
@@ -156,15 +159,14 @@ module _ (bytes : List ℕ) (base : ℕ) (lists : List ℕ) (node : ℕ) (values
         ∙ three-before out (d .words) at (pos node) (pos (3 + length (d .words))) (pos (suc (d .steps))) in
         let leaves : r .left + suc (d .steps) ≡ left = omega (arith, f .leaves, has) in
         let ends : r .at ≡ at + suc (suc (suc (length (d .words)))) = omega (arith, f .ends) in
-        for-statement bytes base lists node values (h .known) (λ s. RanAs (run s left values) r out left at two)
-        (subst (λ (m : Paper.Outcome Done). RanAs m r out left at two) (sym whole) (record { accepts = e; stores = f .stores; leaves = leaves; ends = ends; lays = laid }))
+        for-statement (h .known) (λ s. RanAs (run s left values) r out left at two)
+        (subst (λ (m : Paper.Outcome Done). RanAs m r out left at two) (sym whole) (record { accepts = f .accepts; stores = f .stores; leaves = leaves; ends = ends; lays = laid }))
 
 -- ---- skip
 
 -- a skip's parts are none
-pub skip-answer : (bytes : List ℕ) (base : ℕ) (lists : List ℕ) (node : ℕ) (values : List ℤ) (left at : ℕ) (h : Inner bytes base lists node values left at) → nodeAt bytes node .kind ≡ 16
+pub skip-answer : {bytes : List ℕ} {base : ℕ} {lists : List ℕ} {node : ℕ} {values : List ℤ} {left at : ℕ} (h : Inner bytes base lists node values left at) → nodeAt bytes node .kind ≡ 16
     → (r : Ran) → r .outcome ≡ Accepted → r .store .values ≡ values → r .left ≡ left → r .at ≡ at → (out : List ℤ) → PartsTo bytes node values left r out at out
 unfolding inside lay
-skip-answer bytes base lists node values left at h kinded r a s l p out = for-statement bytes base lists node values (h .known) (λ s. RanAs (inside s values left) r out left at out)
-    (subst (λ (s : Statement). RanAs (inside s values left) r out left at out) (sym (statement-of (built bytes base lists node values (h .known) skip kinded)))
-    (record { accepts = a; stores = s; leaves = add-zero (r .left) ∙ l; ends = p ∙ sym (add-zero at); lays = refl }))
+skip-answer {left} {at} h kinded r a s l p out = for-parts (h .known) (statement-of (built (h .known) skip kinded)) left r out at out
+    (record { accepts = a; stores = s; leaves = add-zero (r .left) ∙ l; ends = p ∙ sym (add-zero at); lays = refl })

@@ -1,57 +1,55 @@
 -- Statements in code: what each kind of node is made of, what its parts ask, and that the answers put together are the definition's.
 -- Assumes nothing.
 use mathlib.Core.Path.{_≡_, refl, sym, ap, ap₂, _∙_, subst}
-use Prim.Native.Nat.{ℕ, zero, suc, _+_, _-_, _*_, _≤_, _<_}
+use Prim.Native.Nat.{ℕ, _+_, _-_, _*_, _≤_, _<_}
 use native.Mathlib.Omega.{arith}
 use native.Mathlib.Nat.{add-zero}
-use mathlib.Core.Bool.{Bool, true, false}
-use mathlib.Core.Option.{Option, some}
-use mathlib.Core.List.{List, [], _∷_, _++_}
-use lib.ListN.{length, getD, take, drop, set, length-append}
-use lib.IntN.{ℤ, pos}
+use mathlib.Core.Option.{some}
+use mathlib.Core.List.{List}
+use lib.ListN.{length, getD, take, drop, set}
+use lib.IntN.{ℤ}
+use lib.Signed.{mag}
 use mir.Syntax.{w64}
 use mir.Val.{toZ, ofZ}
-use Rattle.numbers.specs.Lay.{lay, lay-append, set-lay}
-use Rattle.rules.specs.Outcome.{accepted, refused, _>>=_, choose, fuelSpent}
+use Rattle.rules.specs.Outcome.{accepted, refused, _>>=_}
 use Rattle.rules.specs.Outcome as Paper
-use Rattle.rules.specs.Value.{Ty, inType, typeOf, mostVariables, snapshot, at as valueAt}
-use Rattle.rules.specs.Tree.{Expression, Statement, nodeOf, mentions}
-use Rattle.rules.specs.Table.{Node, readNode, Kind, skip, assign, sequence, if, repeat, nodesAt, typesOf, Part, expression, statement, Program, check}
-use Rattle.rules.specs.Run.{Valued, Done, evaluate, entry, enter, holds, times, iterate, run}
+use Rattle.rules.specs.Value.{Ty, typeOf}
+use Rattle.rules.specs.Tree.{Expression, Statement, mentions}
+use Rattle.rules.specs.Table.{Node, readNode, Kind, assign, typesOf, expression, statement}
+use Rattle.rules.specs.Run.{Valued, Done, evaluate, run}
 use Rattle.rules.specs.Laws.Outcome.{Holds, holds-of}
-use Rattle.rules.specs.Laws.Parts.{statement-of, numberOfKind, nodeAt, partAt, partsOf, Built, Through, through, stands-as, node-inside, child-at, part-typed}
+use Rattle.rules.specs.Laws.Parts.{statement-of, numberOfKind, nodeAt, partAt, partsOf, Built, stands-as, node-inside, child-at, part-typed}
 use Rattle.rules.specs.Laws.Size.{operations, record-size, weight, fewOperators, Small, words-bounded}
-use Rattle.rules.specs.Laws.Store.{Good}
 use Rattle.rules.specs.Laws.Typed.{Typed, Kept, run-keeps}
 use Rattle.rules.specs.Laws.Entry.{Fine}
-use Rattle.rules.specs.Laws.Inside.{inside, run-inside}
-use Rattle.table.specs.Lists.{listAt, Row, ListOf, Lists}
-use Rattle.table.specs.Paper.{refusalFor}
+use Rattle.rules.specs.Laws.Inside.{inside}
+use Rattle.table.specs.Lists.{listAt, ListOf}
 use Rattle.table.specs.declared.answer.Refusal.{Refusal}
 use Rattle.table.specs.declared.answer.Outcome.the-variants.{Accepted, Refused}
 use Rattle.run.specs.declared.expression.Evaluated.{Evaluated}
 use Rattle.run.specs.declared.expression.Evaluated.the-variants.{Is as Value, Refused as Stopped}
 use Rattle.run.specs.declared.statement.Ran.{Ran}
-use Rattle.run.specs.Code.{farthest, EvaluatedAs, Evaluable}
+use Rattle.run.specs.Code.{farthest, EvaluatedAs, Evaluable, EvaluatesTo}
 use Rattle.run.specs.Words.{Listed}
-use Rattle.run.specs.Statement.{EndedAs, RanAs, Opened, Known, Runnable, Inner, Enterable}
-use Rattle.run.proofs.Numbers.{word, word-back}
-use Rattle.run.proofs.Expressions.{Got}
+use Rattle.run.specs.Statement.{EndedAs, RanAs, PartsTo, Known, Enterable}
+use Rattle.run.specs.Laws.Numbers.{word-back}
+use Rattle.run.specs.Laws.Expressions.{nodeRead, same-part, Got, got}
 
 -- ---- a node of an accepted table
 
-same-part : {o : Option Part} {p q : Part} → o ≡ some p → o ≡ some q → p ≡ q
-same-part e f = cc
-
-module _ (bytes : List ℕ) (base : ℕ) (lists : List ℕ) (node : ℕ) (values : List ℤ) (k : Known bytes base lists node values) where
+module _ {bytes : List ℕ} {base : ℕ} {lists : List ℕ} {node : ℕ} {values : List ℤ} (k : Known bytes base lists node values) where
   open Known k using (program, checked, based, listed, tree, here, small, fine)
 
   pub node-bytes : base + 8 * node + 8 ≤ length bytes
   node-bytes = subst (λ (b : ℕ). b + 8 * node + 8 ≤ length bytes) (sym based) (node-inside bytes program checked node (statement tree) here)
 
-  pub read-field : {A : Type 0} (f : Node → A) {r : A} → r ≡ f (readNode (drop (base + 8 * node) bytes)) → r ≡ f (nodeAt bytes node)
+  pub read-field : {A : Type 0} (f : Node → A) {r : A} → r ≡ f (nodeRead bytes base node) → r ≡ f (nodeAt bytes node)
   unfolding nodeAt
   read-field f e = e ∙ ap (λ (b : ℕ). f (readNode (drop (b + 8 * node) bytes))) based
+
+  -- its kind, as it was read and tested
+  pub kind-read : {n m : ℕ} → n ≡ nodeRead bytes base node .kind → n ≡ m → nodeAt bytes node .kind ≡ m
+  kind-read e f = sym (read-field (λ n. n .kind) e) ∙ f
 
   pub built : (kd : Kind) → nodeAt bytes node .kind ≡ numberOfKind kd → Built (typesOf bytes) (take node (partsOf bytes)) node (nodeAt bytes node) kd (statement tree)
   built kd e = stands-as bytes program checked node (statement tree) kd here e
@@ -59,6 +57,11 @@ module _ (bytes : List ℕ) (base : ℕ) (lists : List ℕ) (node : ℕ) (values
   -- what holds of the node's tree holds of each statement of the node
   pub for-statement : (P : Statement → Type 0) → P tree → (s : Statement) → partAt bytes node ≡ some (statement s) → P s
   for-statement P h s e = subst P (statement-of (same-part here e)) h
+
+  -- and what is shown of the parts of its tree is shown of the node's parts
+  pub for-parts : {s : Statement} → tree ≡ s → (left : ℕ) (r : Ran) (out : List ℤ) (at : ℕ) (after : List ℤ) → RanAs (inside s values left) r out left at after
+      → PartsTo bytes node values left r out at after
+  for-parts e left r out at after h = for-statement (λ s. RanAs (inside s values left) r out left at after) (subst (λ (s : Statement). RanAs (inside s values left) r out left at after) (sym e) h)
 
   list : ListOf bytes lists node (statement tree)
   list = listed .each node (statement tree) here
@@ -133,9 +136,9 @@ evaluation-refused (refused p) next q r out out′ left at at′ after after′ 
 -- ---- assign
 
 -- a child that is an expression can be evaluated
-pub child-evaluable : (bytes : List ℕ) (base : ℕ) (lists : List ℕ) (node : ℕ) (values : List ℤ) (k : Known bytes base lists node values) (child : ℕ) (t : Ty) (e : Expression)
-    → partAt bytes child ≡ some (expression t e) → (at : ℕ) → fewOperators e → at + 33_554_432 ≤ farthest → Evaluable bytes base child values at
-child-evaluable bytes base lists node values k child t e here at few near =
+pub child-evaluable : {bytes : List ℕ} {base : ℕ} {lists : List ℕ} {node : ℕ} {values : List ℤ} (k : Known bytes base lists node values) {child : ℕ} {t : Ty} {e : Expression} {at : ℕ}
+    → partAt bytes child ≡ some (expression t e) → fewOperators e → at + 33_554_432 ≤ farthest → Evaluable bytes base child values at
+child-evaluable k {t} {e} {at} here few near =
     let near′ : at + 2 * operations e ≤ farthest = omega arith in
     record {
       program = k .program;
@@ -160,13 +163,10 @@ pub record AsAssign (bytes : List ℕ) (node : ℕ) (tree : Statement) : Type 0 
   pub child : (nodeAt bytes node .a < node) × (partAt bytes (nodeAt bytes node .a) ≡ some (expression (typeOf (typesOf bytes) (nodeAt bytes node .tag)) e))
   pub low : nodeAt bytes node .tag < length (typesOf bytes)
 
-module _ (bytes : List ℕ) (base : ℕ) (lists : List ℕ) (node : ℕ) (values : List ℤ) (left at : ℕ) (h : Enterable bytes base lists node values left at 17) where
-  k : Known bytes base lists node values
-  k = h .inner .known
-
+module _ {bytes : List ℕ} {base : ℕ} {lists : List ℕ} {node : ℕ} {values : List ℤ} {left at : ℕ} (h : Enterable bytes base lists node values left at 17) where
   pub as-assign : AsAssign bytes node (h .inner .known .tree)
   as-assign =
-      let b = built bytes base lists node values (h .inner .known) assign (h .kinded) in
+      let b = built (h .inner .known) assign (h .kinded) in
       record {
         e = b .0;
         is = statement-of (b .1);
@@ -177,31 +177,39 @@ module _ (bytes : List ℕ) (base : ℕ) (lists : List ℕ) (node : ℕ) (values
   few : fewOperators (as-assign .e)
   few = subst Small (as-assign .is) (h .inner .known .small)
 
-  pub assign-evaluable : Evaluable bytes base (nodeAt bytes node .a) values at
-  assign-evaluable =
-      let near : at + 33_554_432 ≤ farthest = omega (arith, h .inner .near) in
-      child-evaluable bytes base lists node values (h .inner .known) (nodeAt bytes node .a) _ (as-assign .e) (as-assign .child .1) at few near
+  -- the variable, as it was read
+  pub assign-tag : {v : ℕ} → v ≡ nodeRead bytes base node .tag → v < 32
+  assign-tag e = omega (arith, read-field (h .inner .known) (λ n. n .tag) e, as-assign .low, h .inner .known .listed .few)
 
-  pub assign-tag : (v : ℕ) → v ≡ nodeAt bytes node .tag → v < 32
-  assign-tag v e = omega (arith, e, as-assign .low, h .inner .known .listed .few)
+  -- the expression, at the node that was read
+  module _ {child : ℕ} (read : child ≡ nodeRead bytes base node .a) where
+    assigned-here : partAt bytes child ≡ some (expression (typeOf (typesOf bytes) (nodeAt bytes node .tag)) (as-assign .e))
+    assigned-here = ap (partAt bytes) (read-field (h .inner .known) (λ n. n .a) read) ∙ as-assign .child .1
 
-  pub assign-answer : (v : ℕ) → v ≡ nodeAt bytes node .tag → {x : ℤ} {end : ℕ} {out after : List ℤ} → Got (evaluate (as-assign .e) values) x end out at after
-      → (r : Ran) → r .outcome ≡ Accepted → r .store .values ≡ set values v x → r .left ≡ left → r .at ≡ end
-      → (s : Statement) → partAt bytes node ≡ some (statement s) → RanAs (inside s values left) r out left at after
-  unfolding inside
-  assign-answer v e {x} {out} {after} got r a b c d = for-statement bytes base lists node values (h .inner .known) (λ s. RanAs (inside s values left) r out left at after)
-      (subst (λ (s : Statement). RanAs (inside s values left) r out left at after) (sym (as-assign .is))
-      (rw (got .comes) (record {
-        accepts = a;
-        stores = b ∙ ap₂ {C = List ℤ} (set values) e (got .value);
-        leaves = add-zero (r .left) ∙ c;
-        ends = d ∙ got .ends;
-        lays = got .lays;
-      })))
+    pub assign-evaluable : Evaluable bytes base child values at
+    assign-evaluable =
+        let near : at + 33_554_432 ≤ farthest = omega (arith, h .inner .near) in
+        child-evaluable (h .inner .known) assigned-here few near
 
-  pub assign-refused : {a : Evaluated} (q : Refusal) (r : Ran) (out out′ after after′ : List ℤ) → EvaluatedAs (evaluate (as-assign .e) values) a out at after → a ≡ Stopped q → r .outcome ≡ Refused q
-      → (s : Statement) → partAt bytes node ≡ some (statement s) → RanAs (inside s values left) r out′ left at after′
-  unfolding inside
-  assign-refused q r out out′ after after′ ev e f = for-statement bytes base lists node values (h .inner .known) (λ s. RanAs (inside s values left) r out′ left at after′)
-      (subst (λ (s : Statement). RanAs (inside s values left) r out′ left at after′) (sym (as-assign .is))
-      (evaluation-refused (evaluate (as-assign .e) values) _ q r out out′ left at at after after′ ev e f))
+    module _ (a : Evaluated) (out after : List ℤ) (answer : EvaluatesTo bytes child values a out at after) where
+      evaluated : EvaluatedAs (evaluate (as-assign .e) values) a out at after
+      evaluated = answer _ (as-assign .e) assigned-here
+
+      pub assign-answer : {x : ℤ} {end : ℕ} → a ≡ Value x end → mag x < 9_223_372_036_854_775_808 → {v : ℕ} → v ≡ nodeRead bytes base node .tag
+          → (r : Ran) → r .outcome ≡ Accepted → r .store .values ≡ set values v (toZ w64 (ofZ w64 x)) → r .left ≡ left → r .at ≡ end → PartsTo bytes node values left r out at after
+      unfolding inside
+      assign-answer {x} {end} e fits {v} tag r accepts stores leaves ends =
+          let g : Got (evaluate (as-assign .e) values) x end out at after = got (evaluate (as-assign .e) values) x end out at after evaluated e in
+          for-parts (h .inner .known) (as-assign .is) left r out at after
+          (rw (g .comes) (record {
+            accepts = accepts;
+            stores = stores ∙ ap₂ {C = List ℤ} (set values) (read-field (h .inner .known) (λ n. n .tag) tag) (word-back x fits ∙ g .value);
+            leaves = add-zero (r .left) ∙ leaves;
+            ends = ends ∙ g .ends;
+            lays = g .lays;
+          }))
+
+      pub assign-refused : {q : Refusal} → a ≡ Stopped q → (r : Ran) → r .outcome ≡ Refused q → (out′ after′ : List ℤ) → PartsTo bytes node values left r out′ at after′
+      unfolding inside
+      assign-refused {q} e r f out′ after′ = for-parts (h .inner .known) (as-assign .is) left r out′ at after′
+          (evaluation-refused (evaluate (as-assign .e) values) _ q r out out′ left at at after after′ evaluated e f)
