@@ -13,14 +13,33 @@ use crate::sharp::{record, SHARP};
 use crate::table::{check, Table};
 use crate::tally::{case_number, is_left};
 use crate::values::{HIGH, LOW, NUMBER, TRUTH};
+use std::collections::VecDeque;
 
 /// The most steps and words that a call of a case may take.
 const MOST_EFFORT: Effort = Effort {
     steps: 400,
     words: 1500,
 };
+/// The most steps and words that a patch of a chain may take: the program
+/// `calls` has 4,096 words for old record and changes, and as many of room.
+const CHAIN_EFFORT: Effort = Effort {
+    steps: 4000,
+    words: 4000,
+};
+/// The most words of a large run's record, and how many of a hundred chains
+/// begin with such a run.
+const LARGE: usize = 3900;
+const LARGE_CHAINS: usize = 3;
 /// How often a case is tried before its aim is given up.
 const TRIES: usize = 4000;
+/// How often a case of the sort `damaged` is tried.
+const FEW_TRIES: usize = 40;
+/// How many records of the sort `damaged` are tried from one run.
+const FROM_ONE_RUN: usize = 16;
+/// One case of so many of the sort `damaged` has an aim.
+const ONE_AIMED: usize = 4;
+/// How many patches a chain has.
+pub const LINKS: usize = 20;
 
 /// What a case should be.
 #[derive(Clone, Copy, Debug, PartialEq, Eq)]
@@ -43,18 +62,25 @@ enum Group {
     Run,
     Left,
     Damaged,
+    /// Damaged records, many of one run, so that they are quickly made.
+    Quick,
+    Chain,
 }
 
-/// The sorts of cases, by their calls.
+/// The sorts of cases: by their calls, and two of patches in great numbers.
 #[derive(Clone, Copy, Debug, PartialEq, Eq)]
 pub enum Sort {
     Table,
     Run,
     Patch,
+    /// Patches of damaged records.
+    Damaged,
+    /// A run and then patches, each of the record that was left before it.
+    Chain,
 }
 
 impl Sort {
-    /// All sorts.
+    /// The sorts of all calls.
     pub const ALL: [Sort; 3] = [Sort::Table, Sort::Run, Sort::Patch];
 
     // The sort of this name in the case format, if there is one.
@@ -63,6 +89,8 @@ impl Sort {
             "table" => Some(Sort::Table),
             "run" => Some(Sort::Run),
             "patch" => Some(Sort::Patch),
+            "damaged" => Some(Sort::Damaged),
+            "chain" => Some(Sort::Chain),
             _ => None,
         }
     }
@@ -83,7 +111,12 @@ pub struct Generator {
     pub random: Random,
     sorts: Vec<Sort>,
     deck: Vec<Group>,
-    turn: [usize; 4],
+    turn: [usize; 6],
+    /// The rest of a chain.
+    rest: VecDeque<Case>,
+    /// The run whose record is damaged, the most words of it, and how often it
+    /// was.
+    damaged: Option<(Session, usize, usize)>,
 }
 
 // So many cases from a seed, with the interpreter's answers.
@@ -183,6 +216,7 @@ fn untried(random: &mut Random) -> Session {
 // A random accepted run over some types, unless this try gives none.
 pub fn session_of(random: &mut Random, types: Vec<u8>, most: usize) -> Option<Session> {
     let budget = match random.below(100) {
+        _ if most == LARGE => random.between(60, 480),
         0..=11 => random.between(1, 8),
         12..=64 => random.between(8, 25),
         _ => random.between(25, 60),
@@ -201,7 +235,8 @@ pub fn session_of(random: &mut Random, types: Vec<u8>, most: usize) -> Option<Se
         .map(|&kind| random_input(random, kind))
         .collect();
     let mut room = vec![0; most];
-    let steps = run(&bytes, &inputs, 300, &mut room).steps;
+    let fuel = if most == LARGE { 2000 } else { 300 };
+    let steps = run(&bytes, &inputs, fuel, &mut room).steps;
     if steps == 0 {
         return None;
     }
@@ -366,15 +401,19 @@ fn aims(group: Group) -> Vec<Aim> {
         ],
         Group::Left => &[8, 9, 10, 11, 0],
         Group::Damaged => &[0, 8, 9, 10, 11, 0, 8, 9, 0, 8, 9, 1, 3, 4, 5, 2],
+        Group::Quick => &[0, 8, 9, 10, 11, 0, 8, 9],
+        Group::Chain => &[],
     };
     aims.extend(numbers.iter().map(|&number| Aim::Number(number)));
     if group == Group::Left {
         aims.extend(FEATURES.iter().map(|feature| Aim::Feature(feature.0)));
     }
-    if group == Group::Damaged {
+    if matches!(group, Group::Damaged | Group::Quick) {
         aims.extend(SITES.iter().map(|site| Aim::Broken(site.0)));
         aims.extend(vec![Aim::Order(8); 12]);
         aims.extend(vec![Aim::Order(9); 6]);
+    }
+    if group == Group::Damaged {
         aims.extend((0..SHARP.len()).map(Aim::Sharp));
     }
     let (any, met) = match group {
@@ -382,6 +421,8 @@ fn aims(group: Group) -> Vec<Aim> {
         Group::Run => (4, 3),
         Group::Left => (5, 1),
         Group::Damaged => (5, 0),
+        Group::Quick => (aims.len() * (ONE_AIMED - 1), 0),
+        Group::Chain => (1, 0),
     };
     aims.extend(vec![Aim::Any; any]);
     aims.extend(vec![Aim::LimitMet; met]);
@@ -400,19 +441,26 @@ impl Generator {
             random: Random::new(seed),
             sorts: sorts.to_vec(),
             deck: Vec::new(),
-            turn: [0; 4],
+            turn: [0; 6],
+            rest: VecDeque::new(),
+            damaged: None,
         }
     }
 
     // The next case: groups from a mixed deck of a hundred, or as many of them as
-    // are of the sorts, aims in turn.
+    // are of the sorts, aims in turn; a chain is not broken off.
     pub fn case(&mut self) -> Case {
+        if let Some(case) = self.rest.pop_front() {
+            return case;
+        }
         if self.deck.is_empty() {
             for (sort, group, count) in [
                 (Sort::Table, Group::Table, 20),
                 (Sort::Run, Group::Run, 25),
                 (Sort::Patch, Group::Left, 22),
                 (Sort::Patch, Group::Damaged, 33),
+                (Sort::Damaged, Group::Quick, 2 * LINKS),
+                (Sort::Chain, Group::Chain, 2),
             ] {
                 if self.sorts.contains(&sort) {
                     self.deck.extend(vec![group; count]);
@@ -425,7 +473,11 @@ impl Generator {
         let turn = &mut self.turn[group as usize];
         let aim = aims[*turn % aims.len()];
         *turn += 1;
-        self.aimed(group, aim)
+        match group {
+            Group::Quick => self.quick_case(aim),
+            Group::Chain => self.chain_case(),
+            _ => self.aimed(group, aim),
+        }
     }
 
     // A case of a group that meets an aim, or at least is of the group.
@@ -436,7 +488,7 @@ impl Generator {
                 Group::Table => self.table_case(aim),
                 Group::Run => self.run_case(aim),
                 Group::Left => self.left_case(aim),
-                Group::Damaged => self.damaged_case(aim),
+                _ => self.damaged_case(aim),
             };
             if let Some((case, met)) = made {
                 if meets(&case, &met, aim) {
@@ -530,7 +582,7 @@ impl Generator {
                 old.push(random.pick(&[0, 1, -1, 5, i64::MIN, i64::MAX]));
             }
         }
-        patch_case(random, made.bytes, old, changes, aim)
+        patch_case(random, made.bytes, old, changes, aim, MOST_EFFORT)
     }
 
     // Try a patch case of a damaged record ("Broken (12)").
@@ -538,38 +590,139 @@ impl Generator {
         let random = &mut self.random;
         if let Aim::Sharp(place) = aim {
             let (table, old) = record(&SHARP[place])?;
-            return patch_case(random, table, old, SHARP[place].changes.to_vec(), aim);
+            let changes = SHARP[place].changes.to_vec();
+            return patch_case(random, table, old, changes, aim, MOST_EFFORT);
         }
         let most = most_words(random);
-        let mut made = session(random, most);
-        let mut changes = random_changes(random, &made.table, &made.inputs);
-        if aim == Aim::Number(11) || random.chance(6) {
-            changes = bad_changes(random, &made.table, &made.inputs);
-        }
-        let wanted = match aim {
-            Aim::Broken(site) => role_of(site),
-            _ => None,
-        };
-        let mut old = made.record.clone();
-        if let Aim::Order(number) = aim {
-            old = two_damages(random, &made, &changes, number)?;
-        } else if aim == Aim::Number(11) && random.chance(20) {
-            old.truncate(3 + 2 * made.table.variables + random.below(3));
-            old[0] = old.len() as i64;
-        } else if wanted.is_none() && random.chance(8) {
-            old = session_of(random, made.table.types.clone(), most)?.record;
-        } else {
-            let map = map(&made.table, &made.record);
-            for _ in 0..random.pick(&[1, 1, 1, 2, 3]) {
-                damage(random, &map, &mut old, wanted);
+        let made = session(random, most);
+        damaged_case_of(random, &made, most, aim)
+    }
+
+    // A patch case of a damaged record, tried not often; the runs are used for many.
+    fn quick_case(&mut self, aim: Aim) -> Case {
+        let mut tries = 0;
+        loop {
+            let wanted = if tries < FEW_TRIES { aim } else { Aim::Any };
+            tries += 1;
+            let random = &mut self.random;
+            let (made, most, used) = self.damaged.get_or_insert_with(|| {
+                let most = most_words(random);
+                (session(random, most), most, 0)
+            });
+            let tried = damaged_case_of(random, made, *most, wanted);
+            *used += 1;
+            if *used == FROM_ONE_RUN {
+                self.damaged = None;
+            }
+            if let Some((case, met)) = tried {
+                if meets(&case, &met, wanted) {
+                    return case;
+                }
             }
         }
-        spoil_table(random, &mut made.bytes, aim);
-        if is_left(&made.bytes, &old) {
-            return None;
-        }
-        patch_case(random, made.bytes, old, changes, aim)
     }
+
+    // The first case of a chain, a run; its patches wait ("The record", last
+    // paragraph).
+    fn chain_case(&mut self) -> Case {
+        let random = &mut self.random;
+        let most = if random.chance(LARGE_CHAINS) {
+            LARGE
+        } else {
+            most_words(random)
+        };
+        let made = session(random, most);
+        let room = made.record.len() + random.below(12);
+        let first = answered(&Case::Run {
+            table: made.bytes.clone(),
+            limit: made.limit,
+            inputs: made.inputs.clone(),
+            answer: Answer::refused(0),
+            words: vec![0; room],
+        });
+        let mut old = made.record.clone();
+        for _ in 0..LINKS {
+            let link = link_case(random, &made, &old);
+            if let Some(record) = left(&link) {
+                old = record.to_vec();
+            }
+            self.rest.push_back(link);
+        }
+        first
+    }
+}
+
+// The record that a case's call left, if it was accepted.
+pub fn left(case: &Case) -> Option<&[i64]> {
+    match case {
+        Case::Run { answer, words, .. } | Case::Patch { answer, words, .. }
+            if answer.number == 0 =>
+        {
+            words.get(..answer.length as usize)
+        }
+        _ => None,
+    }
+}
+
+// A patch of a chain, of the record that the chain has come to.
+fn link_case(random: &mut Random, made: &Session, old: &[i64]) -> Case {
+    let inputs = &old[3..3 + made.table.variables];
+    for _ in 0..FEW_TRIES {
+        let changes = if random.chance(4) {
+            bad_changes(random, &made.table, inputs)
+        } else {
+            random_changes(random, &made.table, inputs)
+        };
+        let (bytes, old) = (made.bytes.clone(), old.to_vec());
+        let tried = patch_case(random, bytes, old, changes, Aim::Any, CHAIN_EFFORT);
+        if let Some((case, _)) = tried {
+            return case;
+        }
+    }
+    answered(&Case::Patch {
+        table: made.bytes.clone(),
+        old: old.to_vec(),
+        changes: vec![0; made.table.variables],
+        answer: Answer::refused(0),
+        words: vec![0; old.len()],
+    })
+}
+
+// Try a patch case of a record of a run, damaged ("Broken (12)").
+fn damaged_case_of(
+    random: &mut Random,
+    made: &Session,
+    most: usize,
+    aim: Aim,
+) -> Option<(Case, Met)> {
+    let mut changes = random_changes(random, &made.table, &made.inputs);
+    if aim == Aim::Number(11) || random.chance(6) {
+        changes = bad_changes(random, &made.table, &made.inputs);
+    }
+    let wanted = match aim {
+        Aim::Broken(site) => role_of(site),
+        _ => None,
+    };
+    let mut old = made.record.clone();
+    if let Aim::Order(number) = aim {
+        old = two_damages(random, made, &changes, number)?;
+    } else if aim == Aim::Number(11) && random.chance(20) {
+        old.truncate(3 + 2 * made.table.variables + random.below(3));
+        old[0] = old.len() as i64;
+    } else if wanted.is_none() && random.chance(8) {
+        old = session_of(random, made.table.types.clone(), most)?.record;
+    } else {
+        let map = map(&made.table, &made.record);
+        for _ in 0..random.pick(&[1, 1, 1, 2, 3]) {
+            damage(random, &map, &mut old, wanted);
+        }
+    }
+    let mut bytes = made.bytes.clone();
+    spoil_table(random, &mut bytes, aim);
+    if is_left(&bytes, &old) {
+        return None;
+    }
+    patch_case(random, bytes, old, changes, aim, MOST_EFFORT)
 }
 
 // Patch a session's record once more, if the patch is accepted ("Patching").
@@ -661,10 +814,12 @@ fn patch_case(
     old: Vec<i64>,
     changes: Vec<i64>,
     aim: Aim,
+    most: Effort,
 ) -> Option<(Case, Met)> {
     let mut met = Met::default();
-    let length = patch_watched(&table, &old, &changes, &mut vec![0; 2000], &mut met).length;
-    if met.effort.steps > MOST_EFFORT.steps || met.effort.words > MOST_EFFORT.words {
+    let mut large = vec![0; most.words + 500];
+    let length = patch_watched(&table, &old, &changes, &mut large, &mut met).length;
+    if met.effort.steps > most.steps || met.effort.words > most.words {
         return None;
     }
     let wanted = if length == 0 {

@@ -9,23 +9,28 @@ const HELP: &str = "compare: an independent interpreter, and the cases it is com
   compare generate SEED COUNT [SORT..]
                                  write COUNT cases with the interpreter's
                                  answers, of the sorts table, run and patch, or
-                                 of the named ones
+                                 of the named ones; damaged is patches of
+                                 damaged records, and chain a run with 20
+                                 patches behind it, each of the record left
+                                 before it: both are made in great numbers
   compare interpret FILE         hold the interpreter to the cases of a file
   compare define FILE [REPOSITORY]
                                  hold the definitions of this repository, or of
                                  another copy of it, to the cases of a file
   compare execute FILE [PROGRAM]
-                                 hold the product to the tables and runs of a
-                                 file, by the program calls of this repository,
-                                 which rt builds, or by another
-  compare stream FILE            write the tables and runs of a file as the
-                                 bytes that the program calls reads
+                                 hold the product to the cases of a file, by the
+                                 program calls of this repository, which rt
+                                 builds, or by another
+  compare stream FILE            write the cases of a file as the bytes that the
+                                 program calls reads
   compare teeth FILE [NAME..]    try the named wrong edits of the definitions, or
                                  all: the cases of a file or the marked cases
                                  must catch each
-  compare tally FILE [--agreement]
+  compare tally FILE [--agreement | --patches COUNT]
                                  count the cases of a file; with --agreement
-                                 fail unless there are enough of every sort
+                                 fail unless there are enough of every sort, with
+                                 --patches unless there are COUNT patches, half
+                                 of them of damaged records, and chains
   compare list FILE              the listing of one session's bytes
   compare session SCRIPT LIMIT INPUT.. [/ CHANGE..]..
                                  write a session's bytes: the table of a script
@@ -58,8 +63,11 @@ fn main() {
         ["execute", file, program] => command_execute(file, Some(program)),
         ["stream", file] => command_stream(file),
         ["teeth", file, names @ ..] => command_teeth(file, names),
-        ["tally", file] => command_tally(file, false),
-        ["tally", file, "--agreement"] => command_tally(file, true),
+        ["tally", file] => command_tally(file, Wanted::Nothing),
+        ["tally", file, "--agreement"] => command_tally(file, Wanted::Agreement),
+        ["tally", file, "--patches", count] => {
+            number(count, "count").and_then(|count| command_tally(file, Wanted::Patches(count)))
+        }
         ["list", file] => command_list(file),
         ["session", script, limit, rest @ ..] => command_session(script, limit, rest),
         ["assemble", script] => command_assemble(script),
@@ -181,23 +189,34 @@ fn command_teeth(file: &str, names: &[&str]) -> Ended {
     }
 }
 
-// compare tally FILE [--agreement]
-fn command_tally(file: &str, agreement: bool) -> Ended {
+/// What a file must have.
+enum Wanted {
+    Nothing,
+    Agreement,
+    Patches(usize),
+}
+
+// compare tally FILE [--agreement | --patches COUNT]
+fn command_tally(file: &str, wanted: Wanted) -> Ended {
     let cases = match read_cases(file)? {
         Ok(cases) => cases,
         Err(status) => return Ok(status),
     };
     let counts = tally::tally(&cases);
     show(counts.text().as_bytes());
-    if !agreement {
-        return Ok(0);
-    }
-    let missing = counts.missing();
+    let (missing, enough) = match wanted {
+        Wanted::Nothing => return Ok(0),
+        Wanted::Agreement => (
+            counts.missing(),
+            "agreement: enough cases of every sort".to_string(),
+        ),
+        Wanted::Patches(least) => (counts.missing_patches(least), counts.patches()),
+    };
     for line in &missing {
         println!("missing: {line}");
     }
     if missing.is_empty() {
-        println!("agreement: enough cases of every sort");
+        println!("{enough}");
     }
     Ok(!missing.is_empty() as i32)
 }

@@ -1,6 +1,7 @@
 //! The counts of a case file.
 
 use crate::case::Case;
+use crate::generate::{left, LINKS};
 use crate::met::{Met, FEATURES, SITES};
 use crate::patch::patch_watched;
 use crate::run::run;
@@ -30,6 +31,16 @@ pub struct Tally {
     pub room_filled: usize,
     /// Runs and patches refused with 10.
     pub room_small: usize,
+    /// Chains: an accepted run and right behind it 20 patches, each of the
+    /// record that the last accepted call of the chain left.
+    pub chains: usize,
+}
+
+/// The chain that a file's last cases are of, or begin.
+struct Chain<'a> {
+    table: &'a [u8],
+    record: &'a [i64],
+    links: usize,
 }
 
 // Whether an old record is one that an accepted call left: the record that a
@@ -77,11 +88,47 @@ pub fn tally(cases: &[Case]) -> Tally {
         limit_met: 0,
         room_filled: 0,
         room_small: 0,
+        chains: chains(cases),
     };
     for case in cases {
         tally.add(case);
     }
     tally
+}
+
+// How many chains there are ("The record", last paragraph).
+fn chains(cases: &[Case]) -> usize {
+    let mut whole = 0;
+    let mut open: Option<Chain> = None;
+    for case in cases {
+        open = continued(open, case);
+        if open.as_ref().is_some_and(|chain| chain.links == LINKS) {
+            whole += 1;
+            open = None;
+        }
+    }
+    whole
+}
+
+// The chain that cases are of with one more, if they are of one.
+fn continued<'a>(open: Option<Chain<'a>>, case: &'a Case) -> Option<Chain<'a>> {
+    match case {
+        Case::Table { .. } => None,
+        Case::Run { table, .. } => Some(Chain {
+            table,
+            record: left(case)?,
+            links: 0,
+        }),
+        Case::Patch { table, old, .. } => {
+            let mut chain = open?;
+            if chain.table != table || chain.record != old {
+                return None;
+            }
+            chain.record = left(case).unwrap_or(chain.record);
+            chain.links += 1;
+            Some(chain)
+        }
+    }
 }
 
 impl Tally {
@@ -167,6 +214,8 @@ impl Tally {
         for (name, count) in self.others() {
             text.push_str(&format!("  {name:<40}{count:>6}\n"));
         }
+        let chains = format!("chains of a run and {LINKS} patches");
+        text.push_str(&format!("  {chains:<40}{:>6}\n", self.chains));
         text.push_str("\ntests that found a record broken (12)\n");
         for (count, site) in self.sites.iter().zip(SITES) {
             text.push_str(&format!("  {:<40}{count:>6}\n", site.1));
@@ -206,6 +255,32 @@ impl Tally {
         }
         for (name, count) in self.others() {
             need(name.to_string(), count, 8);
+        }
+        missing
+    }
+
+    // The patches in a line.
+    pub fn patches(&self) -> String {
+        let (whole, damaged) = (self.of_kind(3), self.of_kind(4));
+        let (all, chains) = (whole + damaged, self.chains);
+        format!("{all} patches, {damaged} of damaged records, {chains} chains of {LINKS}")
+    }
+
+    // What is missing for so many patches: half of damaged records, with every
+    // test of "Broken (12)" met, and the others in chains for the most part.
+    pub fn missing_patches(&self, least: usize) -> Vec<String> {
+        let mut missing = Vec::new();
+        let mut need = |name: &str, count: usize, least: usize| {
+            if count < least {
+                missing.push(format!("{name}: {count}, {least} needed"));
+            }
+        };
+        let damaged = self.of_kind(4);
+        need("patches", self.of_kind(3) + damaged, least);
+        need(KINDS[4], damaged, least.div_ceil(2));
+        need("chains", self.chains, least / (3 * LINKS));
+        for (count, site) in self.sites.iter().zip(SITES) {
+            need(site.1, *count, 1);
         }
         missing
     }

@@ -1,7 +1,7 @@
 //! The stream that the program `calls` reads, and how its lines are held to the cases.
 
 use compare::case::{parse, parse_file, print_answer, Case};
-use compare::execute::{call, differences, stream};
+use compare::execute::{differences, stream};
 use compare::generate::{Generator, Sort};
 
 /// The line that `calls` ends with where its input ends inside a call.
@@ -9,8 +9,7 @@ const CUT: &str = "calls: the input ends inside a call\n";
 
 // The lines that a program with the right answers writes.
 fn right_lines(cases: &[Case]) -> String {
-    let executed = cases.iter().filter(|case| call(case).is_some());
-    executed.map(|case| print_answer(case) + "\n").collect()
+    cases.iter().map(|case| print_answer(case) + "\n").collect()
 }
 
 // A file of the repository.
@@ -23,11 +22,16 @@ fn file(name: &str) -> Vec<u8> {
 fn the_stream_has_the_numbers_the_table_and_the_words() {
     let zeros = ["0"; 69].join(" ");
     let run = format!("run 00ff07 -2 1 258 1 = 3 {zeros} : 0");
-    let patch = format!("patch 00 0 0 1 = 1 {zeros} : 0");
+    let patch = format!("patch 05 2 6 -1 1 9 1 = 1 {zeros} : 0");
     let lines = format!("table - = 1\n{patch}\n{run}\n");
-    let mut expected = vec![0; 16];
-    expected.extend([1, 0, 0, 0, 3, 0, 0, 0, 2, 0, 0, 0, 1, 0, 0, 0]);
-    expected.extend([0, 255, 7]);
+    let mut expected = vec![0; 20];
+    expected.extend([2, 0, 0, 0, 1, 0, 0, 0, 3, 0, 0, 0]);
+    expected.extend([2, 0, 0, 0, 1, 0, 0, 0, 5]);
+    expected.extend([6, 0, 0, 0, 0, 0, 0, 0]);
+    expected.extend([255, 255, 255, 255, 255, 255, 255, 255]);
+    expected.extend([9, 0, 0, 0, 0, 0, 0, 0]);
+    expected.extend([1, 0, 0, 0, 3, 0, 0, 0, 2, 0, 0, 0]);
+    expected.extend([0, 0, 0, 0, 1, 0, 0, 0, 0, 255, 7]);
     expected.extend([254, 255, 255, 255, 255, 255, 255, 255]);
     expected.extend([2, 1, 0, 0, 0, 0, 0, 0]);
     assert_eq!(stream(&parse_file(&lines).unwrap()), expected);
@@ -57,7 +61,7 @@ fn right_lines_are_held() {
 
 #[test]
 fn every_wrong_line_is_told() {
-    let mut generator = Generator::of(26, &[Sort::Table, Sort::Run]);
+    let mut generator = Generator::new(26);
     let cases: Vec<Case> = (0..60).map(|_| generator.case()).collect();
     let right = right_lines(&cases);
     for (at, line) in right.lines().enumerate() {
@@ -90,7 +94,7 @@ fn lines_too_few_or_too_many_are_told() {
 #[test]
 fn a_generator_of_some_sorts_makes_no_other() {
     let mut generator = Generator::of(27, &[Sort::Table, Sort::Run]);
-    assert!((0..200).all(|_| call(&generator.case()).is_some()));
+    assert!((0..200).all(|_| !matches!(generator.case(), Case::Patch { .. })));
     let mut generator = Generator::of(27, &[Sort::Patch]);
     assert!((0..50).all(|_| matches!(generator.case(), Case::Patch { .. })));
 }

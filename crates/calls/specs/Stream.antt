@@ -24,19 +24,21 @@ wordAt s at = toZ w64 (u32 s at + 4294967296 * u32 s (at + 4))
 abbrev pub Decoded : List ℕ → ℕ → List ℤ → Type 0
 Decoded bytes n words = (k : ℕ) → k < n → getD words k (pos 0) ≡ wordAt bytes (8 * k)
 
--- the sizes of a call are within their limits, and a call that has words to look at has one
+-- the sizes of a call are within their limits, its old words are among its words, and a run has a word, its limit
 pub record Within (c : Call) : Type 0 where
   pub bytes : c .bytes ≤ 8192
   pub words : c .words ≤ 4096
+  pub old : c .old ≤ c .words
   pub room : c .room ≤ 4096
-  pub some : (c .kind ≡ 0 → ⊥) → 1 ≤ c .words
+  pub some : (c .kind ≡ 0 → ⊥) → (c .kind ≡ 2 → ⊥) → 1 ≤ c .words
 
 -- a call's numbers are those of the bytes that open it
 pub record Opens (head : List ℕ) (c : Call) : Type 0 where
   pub kind : c .kind ≡ u32 head 0
   pub bytes : c .bytes ≡ u32 head 4
   pub words : c .words ≡ u32 head 8
-  pub room : c .room ≡ u32 head 12
+  pub old : c .old ≡ u32 head 12
+  pub room : c .room ≡ u32 head 16
 
 -- where a call stands next, it is within its limits
 abbrev pub Fitting : Asked → Type 0

@@ -11,6 +11,7 @@ use crate::text::add_count;
 use crate::text::add_next;
 use crate::text::add_words;
 use crate::text::flush;
+use patch::call::patch;
 use run::call::run;
 use table::answer::Answer;
 use table::answer::Outcome;
@@ -96,6 +97,12 @@ fn answer_run(t: &[u8], limit: i64, inputs: &[i64], out: &mut [i64]) {
     say_answer(answer, out);
 }
 
+// Patches an old record of a table in the lent buffer, and writes the answer's line.
+fn answer_patch(t: &[u8], old: &[i64], changes: &[i64], out: &mut [i64]) {
+    let answer = patch(t, old, changes, out);
+    say_answer(answer, out);
+}
+
 // Executes a call on the table and the words that came with it.
 fn answer_call(call: Call, table: &[u8], words: &[i64], buffer: &mut [i64])
     requires { ⌜ Within call × (length (now table) ≡ 8192) × (length (now words) ≡ 4096) × (length (now buffer) ≡ 4096) ⌝ }
@@ -107,8 +114,14 @@ fn answer_call(call: Call, table: &[u8], words: &[i64], buffer: &mut [i64])
         return;
     }
     let count = call.words;
+    let old = call.old;
     let room = call.room;
-    answer_run(t, words[0], &words[1..count], &mut buffer[..room]);
+    let out = &mut buffer[..room];
+    if call.kind == 2 {
+        answer_patch(t, &words[..old], &words[old..count], out);
+        return;
+    }
+    answer_run(t, words[0], &words[1..count], out);
 }
 
 // Reads the rest of a call, executes it and writes its line; returns whether the input had all of it.

@@ -1,18 +1,23 @@
 // Executes the calls that standard input holds, and writes each answer as a line of text.
 //
-// The calls stand one behind the other. A call is four numbers of 32 bits, then a table's bytes, then words. Numbers and words
+// The calls stand one behind the other. A call is five numbers of 32 bits, then a table's bytes, then words. Numbers and words
 // are little-endian, and words are signed, of 64 bits.
 //
-//     kind     0 a table check, 1 a run; 2 is kept for the patch
+//     kind     0 a table check, 1 a run, 2 a patch
 //     bytes    how many the table has, at most 8,192
 //     words    how many there are, at most 4,096
+//     old      how many of them are the old record's, no more than there are
 //     room     words of the lent buffer, at most 4,096
 //
-// The words of a run are its limit and then its inputs. A check looks at no word and at no room.
+// The words of a run are its limit and then its inputs; those of a patch are the old record's and then the changes. A check
+// looks at no word and at no room, and only a patch looks at how many words are old.
 //
-// A line is what a case has behind its `=`: of a check its number; of a run the 70 words of its answer, a colon, and the whole
-// buffer. Where the input ends inside a call, or a call is of no kind, without a limit or too large, the last line says so, and
-// nothing behind it is executed.
+// A line is what a case has behind its `=`: of a check its number; of a run or a patch the 70 words of its answer, a colon, and
+// the whole buffer. Where the input ends inside a call, or a call is of no kind, a run without a limit, or too large, the last
+// line says so, and nothing behind it is executed.
+//
+// A call's arrays stand on the stack: 8,192 bytes for the table, 32,768 for the words, as many for their bytes while they are
+// read, as many for the buffer, and 4,096 for the text of its line.
 mod execute;
 mod stream;
 mod text;

@@ -15,11 +15,15 @@ pub const MOST_ROOM: usize = 4096;
 // The bytes of the most words.
 const WORD_BYTES: usize = 32768;
 
-// The four numbers that open a call.
+// The bytes of the five numbers.
+const HEAD_BYTES: usize = 20;
+
+// The five numbers that open a call.
 pub struct Call {
     pub kind: usize,
     pub bytes: usize,
     pub words: usize,
+    pub old: usize,
     pub room: usize,
 }
 
@@ -58,10 +62,16 @@ fn known(call: Call) -> Asked
     if MOST_WORDS < call.words {
         return Asked::Unknown;
     }
+    if call.words < call.old {
+        return Asked::Unknown;
+    }
     if MOST_ROOM < call.room {
         return Asked::Unknown;
     }
     if call.kind == 0 {
+        return Asked::Call(call);
+    }
+    if call.kind == 2 {
         return Asked::Call(call);
     }
     if call.kind != 1 {
@@ -73,16 +83,17 @@ fn known(call: Call) -> Asked
     Asked::Call(call)
 }
 
-// The four numbers of these bytes.
-fn opening(head: &[u8; 16]) -> Call
-    requires { ⌜ length (now head) ≡ 16 ⌝ }
+// The five numbers of these bytes.
+fn opening(head: &[u8; HEAD_BYTES]) -> Call
+    requires { ⌜ length (now head) ≡ 20 ⌝ }
     ensures { λ r. ⌜ Opens (now (head .entry)) r ⌝ }
 {
     Call {
         kind: half(head, 0),
         bytes: half(head, 4),
         words: half(head, 8),
-        room: half(head, 12),
+        old: half(head, 12),
+        room: half(head, 16),
     }
 }
 
@@ -90,12 +101,12 @@ fn opening(head: &[u8; 16]) -> Call
 pub fn next_call() -> Asked
     ensures { λ r. ⌜ Fitting r ⌝ }
 {
-    let mut head = [0u8; 16];
+    let mut head = [0u8; HEAD_BYTES];
     let got = io::read_full(0, &mut head);
     if got == 0 {
         return Asked::End;
     }
-    if got < 16 {
+    if got < HEAD_BYTES {
         return Asked::Cut;
     }
     known(opening(&head))

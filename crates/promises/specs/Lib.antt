@@ -1,6 +1,7 @@
 pub mod Marked
 pub mod Rules
 pub mod Rerun
+pub mod Code
 pub mod Unique
 pub mod Refusals
 pub mod ShutOut

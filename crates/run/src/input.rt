@@ -12,7 +12,7 @@ use table::access::pair;
 use table::answer::Store;
 
 // Whether the value is one of low to high.
-fn within(low: i64, high: i64, value: i64) -> bool
+pub fn within(low: i64, high: i64, value: i64) -> bool
     ensures { λ r. ⌜ r ≡ between low high value ⌝ }
 {
     if low <= value {

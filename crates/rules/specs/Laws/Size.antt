@@ -64,7 +64,7 @@ bounded-enter node inside h (suc left) = holds-bind (inside left) _ (h left) λ 
     three-more : (n k : ℕ) → n + 35 ≤ weight * suc k → suc (suc (suc n)) + 32 ≤ weight * suc k
     three-more n k h = omega arith
 
-bounded-iterate : (body : ℕ → List ℤ → Outcome Done) (vs : List ℕ) → length vs ≤ 32 → ((left : ℕ) (store : List ℤ) → Holds Bounded (body left store))
+pub bounded-iterate : (body : ℕ → List ℤ → Outcome Done) (vs : List ℕ) → length vs ≤ 32 → ((left : ℕ) (store : List ℤ) → Holds Bounded (body left store))
     → (n left : ℕ) (store : List ℤ) → Holds (λ d. length (d .words) ≤ weight * d .steps) (iterate body vs n left store)
 unfolding iterate
 bounded-iterate body vs few h zero left store = holds-here _ (omega arith)

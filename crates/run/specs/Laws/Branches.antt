@@ -58,7 +58,7 @@ if-laid out before after test branch z at second third fourth e f g =
 
 -- ---- the whole of an if
 
-if-long : (z : ℤ) (before after test branch : List ℤ) → length (ifWords z before after test branch) ≡ 1 + length before + length after + length test + length branch
+pub if-long : (z : ℤ) (before after test branch : List ℤ) → length (ifWords z before after test branch) ≡ 1 + length before + length after + length test + length branch
 unfolding ifWords
 if-long z before after test branch =
     omega (arith, length-append before (after ++ (test ++ branch)), length-append after (test ++ branch), length-append test branch)

@@ -43,7 +43,7 @@ use Rattle.run.specs.Laws.Statements.{RunGot, run-got, accepted-refused,
 use Rattle.run.specs.Laws.Completed.{record-long}
 use Rattle.run.specs.Laws.Tests.{refused-some}
 
-reason-of : {q r : Refusal} → Refused q ≡ Refused r → q ≡ r
+pub reason-of : {q r : Refusal} → Refused q ≡ Refused r → q ≡ r
 reason-of e = cc
 
 -- ---- what the tests give

@@ -23,7 +23,7 @@ use Rattle.run.specs.Call.{finished, Completable}
 
 -- ---- the words of a record, whatever the order they are laid in
 
-record-laid : (out inputs outputs words : List ℤ) (x y z : ℤ) (v : ℕ) → length inputs ≡ v → length outputs ≡ v
+pub record-laid : (out inputs outputs words : List ℤ) (x y z : ℤ) (v : ℕ) → length inputs ≡ v → length outputs ≡ v
     → lay (lay (set (set (set (lay out (3 + 2 * v) words) 0 x) 1 y) 2 z) 3 inputs) (3 + v) outputs ≡ lay out 0 (x ∷ y ∷ z ∷ (inputs ++ (outputs ++ words)))
 unfolding lay
 record-laid out inputs outputs words x y z v e f =
@@ -41,7 +41,7 @@ record-laid out inputs outputs words x y z v e f =
     ∙ sym (lay-append header 3 inputs (outputs ++ words))
 
 -- laid from the start, and zeros behind them
-cut-laid : (out words : List ℤ) → length words ≤ length out → take (length words) (lay out 0 words) ≡ words
+pub cut-laid : (out words : List ℤ) → length words ≤ length out → take (length words) (lay out 0 words) ≡ words
 cut-laid out words fits =
     let all : 0 + length words ≤ length out = omega arith in
     ap (take (length words)) (lay-inside out 0 words all) ∙ take-append-seam words (drop (0 + length words) out)

@@ -71,7 +71,7 @@ module _ {bytes : List ℕ} {base : ℕ} {lists : List ℕ} {node : ℕ} {values
 
 -- ---- a statement: a step, the parts, the opening words
 
-three-before : (out words : List ℤ) (at : ℕ) (x y z : ℤ) → set (set (set (lay out (at + 3) words) at x) (at + 1) y) (at + 2) z ≡ lay out at (x ∷ y ∷ z ∷ words)
+pub three-before : (out words : List ℤ) (at : ℕ) (x y z : ℤ) → set (set (set (lay out (at + 3) words) at x) (at + 1) y) (at + 2) z ≡ lay out at (x ∷ y ∷ z ∷ words)
 unfolding lay
 three-before out words at x y z =
     let two : at + 2 ≡ suc (suc at) = omega arith in

@@ -56,7 +56,7 @@ truth-range (suc n) z h = refl
 -- ---- one value for each variable
 
 -- a test that cannot hold is false
-refuted : (b : Bool) → (b ≡ true → ⊥) → false ≡ b
+pub refuted : (b : Bool) → (b ≡ true → ⊥) → false ≡ b
 refuted true h = absurd (h refl)
 refuted false h = refl
 
@@ -74,13 +74,13 @@ module _ (bytes : List ℕ) (long : nodesAt bytes ≤ length bytes) where
   unfolding nodesAt headerLength
   header-long = long
 
-  types-long : length (typesOf bytes) ≡ variables bytes
+  pub types-long : length (typesOf bytes) ≡ variables bytes
   unfolding typesOf typeBytes headerLength
   types-long =
       length-map (take (variables bytes) (drop 16 bytes)) tyOf
       ∙ length-take-le (variables bytes) (drop 16 bytes) (rw length-drop (omega (arith, header-long)))
 
-  type-at : (k : ℕ) → k < variables bytes → typeOf (typesOf bytes) k ≡ typeBy bytes k
+  pub type-at : (k : ℕ) → k < variables bytes → typeOf (typesOf bytes) k ≡ typeBy bytes k
   unfolding typesOf typeBytes headerLength tyOf
   type-at k below =
       List·getD-map tyOf (take (variables bytes) (drop 16 bytes)) k 0

@@ -39,7 +39,7 @@ use Rattle.run.specs.Laws.Sequences.{child-known}
 
 -- ---- the words of a repeat, whatever the order they are laid in
 
-repeat-laid : (out before test turns : List ℤ) (z : ℤ) (at second third : ℕ) → second ≡ at + 1 + length before → third ≡ second + length test
+pub repeat-laid : (out before test turns : List ℤ) (z : ℤ) (at second third : ℕ) → second ≡ at + 1 + length before → third ≡ second + length test
     → lay (set (lay (lay out (at + 1) before) second test) at z) third turns ≡ lay out at (repeatWords z before test turns)
 unfolding repeatWords lay
 repeat-laid out before test turns z at second third e f =
@@ -51,7 +51,7 @@ repeat-laid out before test turns z at second third e f =
     ∙ sym (lay-append (set out at z) (at + 1) before (test ++ turns))
     ∙ ap (λ (i : ℕ). lay (set out at z) i (before ++ (test ++ turns))) (add-one at)
 
-repeat-long : (z : ℤ) (before test turns : List ℤ) → length (repeatWords z before test turns) ≡ 1 + length before + length test + length turns
+pub repeat-long : (z : ℤ) (before test turns : List ℤ) → length (repeatWords z before test turns) ≡ 1 + length before + length test + length turns
 unfolding repeatWords
 repeat-long z before test turns = omega (arith, length-append before (test ++ turns), length-append test turns)
 
@@ -98,10 +98,10 @@ module _ {bytes : List ℕ} {base : ℕ} {lists : List ℕ} {node : ℕ} {values
         bodied = child-at bytes (k .program) (k .checked) node (nodeAt bytes node .b) (statement (p .1)) (p .4);
       }
 
-  repeat-small : Small (Statement.repeat node (as-repeat .e) (as-repeat .s))
+  pub repeat-small : Small (Statement.repeat node (as-repeat .e) (as-repeat .s))
   repeat-small = subst Small (as-repeat .is) (k .small)
 
-  repeat-variables : listAt lists node ≡ mentions (Statement.repeat node (as-repeat .e) (as-repeat .s))
+  pub repeat-variables : listAt lists node ≡ mentions (Statement.repeat node (as-repeat .e) (as-repeat .s))
   repeat-variables = list-is k ∙ ap mentions (as-repeat .is)
 
   pub loop-listed : Listed lists node (at + 1)

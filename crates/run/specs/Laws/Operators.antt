@@ -104,7 +104,7 @@ module _ (bytes : List ℕ) (p : Program) (checked : check bytes ≡ accepted p)
 -- ---- an operator's answer
 
 -- the operands' records and then the operands themselves are the operator's record
-whole-record : (out one two after : List ℤ) (at behind : ℕ) (x y : ℤ) (vs ws : List ℤ)
+pub whole-record : (out one two after : List ℤ) (at behind : ℕ) (x y : ℤ) (vs ws : List ℤ)
     → one ≡ lay out (at + 2) vs → behind ≡ at + 2 + length vs → two ≡ lay one behind ws → after ≡ set (set two at x) (at + 1) y
     → after ≡ lay out at (x ∷ y ∷ (vs ++ ws))
 unfolding lay

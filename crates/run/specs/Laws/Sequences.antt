@@ -83,7 +83,7 @@ module _ {bytes : List ℕ} {base : ℕ} {lists : List ℕ} {node : ℕ} {values
         second = child-at bytes program checked node (nodeAt bytes node .b) (statement (b .1)) (b .4);
       }
 
-  both-small : Small (as-sequence .s) × Small (as-sequence .t)
+  pub both-small : Small (as-sequence .s) × Small (as-sequence .t)
   both-small = subst Small (as-sequence .is) small
 
   -- the first statement's end

@@ -84,14 +84,14 @@ module _ {bytes : List ℕ} {base : ℕ} {lists : List ℕ} {node : ℕ} {values
   if-narrow = omega (arith, ap length if-variables, if-small .1)
 
   -- the branch that a condition takes: at its node, as a statement and as a run
-  abbrev taken : Bool → Statement
+  abbrev pub taken : Bool → Statement
   taken b = choose b (as-if .s) (as-if .t)
 
-  taken-here : (b : Bool) → partAt bytes (takenNode bytes node b) ≡ some (statement (taken b))
+  pub taken-here : (b : Bool) → partAt bytes (takenNode bytes node b) ≡ some (statement (taken b))
   taken-here true = as-if .yes .1
   taken-here false = as-if .no .1
 
-  taken-small : (b : Bool) → Small (taken b)
+  pub taken-small : (b : Bool) → Small (taken b)
   taken-small true = if-small .2
   taken-small false = if-small .3
 

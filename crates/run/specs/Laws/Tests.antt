@@ -36,7 +36,7 @@ accepted-of (accepted a) e = (a, refl)
 accepted-of (refused r) e = absurd (omega (arith, number-some r, e))
 
 -- a refusal is handed up unchanged
-stays : {A B : Type 0} (m : Paper.Outcome A) (next : A → Paper.Outcome B) (n : ℕ) → (n ≡ 0 → ⊥) → n ≡ Paper.numberOf m → n ≡ Paper.numberOf (m >>= next)
+pub stays : {A B : Type 0} (m : Paper.Outcome A) (next : A → Paper.Outcome B) (n : ℕ) → (n ≡ 0 → ⊥) → n ≡ Paper.numberOf m → n ≡ Paper.numberOf (m >>= next)
 unfolding Paper.numberOf
 stays (accepted a) next n above e = absurd (above e)
 stays (refused r) next n above e = e

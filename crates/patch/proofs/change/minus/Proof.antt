@@ -1,0 +1,34 @@
+-- `patch::change::minus` meets its contract: byte 0 names a number, and the difference of two near words fits; any other names a truth.
+-- Assumes nothing.
+use mathlib.Core.Path.{sym, ap, _∙_}
+use borrow.Author.Needs.{needs}
+use Rattle.rules.specs.Value.{minus}
+use Rattle.patch.proofs.Changes.{number-type, truth-type, difference-fits, difference-kept, differ-kept}
+use Rattle.patch.proofs.change.minus.Statement.{statement}
+use Rattle.patch.proofs.change.minus.Tie as tie
+use Rattle.patch.proofs.change.minus.Reads as reads
+use Rattle.patch.proofs.change.minus.Lts as lts
+use Rattle.patch.proofs.change.differ.Reads as differ-reads
+
+sub-result : tie.Need-sub-result
+sub-result c = let s = c .before in difference-fits (s .args .new) (s .args .old) (s .pre .0) (s .pre .1)
+
+returns : tie.Need-returns
+unfolding minus
+returns c =
+    let s = c .before in
+    difference-kept (s .args .new) (s .args .old) (s .pre .0) (s .pre .1)
+    ∙ sym (ap (λ t. minus t (s .args .new) (s .args .old)) (number-type (c .if1 .taken)))
+
+differ-requires : tie.Need-differ-requires
+differ-requires c κs = search needs
+
+returns-2 : tie.Need-returns-2
+unfolding minus
+returns-2 c =
+    let s = c .before .before in
+    differ-kept (s .args .new) (s .args .old) (s .fits .new) (s .fits .old) (c .differ .ensures)
+    ∙ sym (ap (λ t. minus t (s .args .new) (s .args .old)) (truth-type (s .args .kind) (c .before .if1 .left)))
+
+pub minus-spec : {M : Type 1} → statement M
+minus-spec = tie.close (tie.spec sub-result returns differ-requires returns-2)

@@ -1,0 +1,41 @@
+-- `patch::change::moved` meets its contract: the test of the type decides whether the old value with its change is one.
+-- Assumes nothing.
+use mathlib.Core.Path.{sym, _∙_}
+use borrow.Author.Needs.{needs}
+use borrow.Author.Tests.{not-true, not-false}
+use Rattle.rules.specs.Table.{tyOf}
+use Rattle.run.specs.Laws.Numbers.{word}
+use Rattle.patch.proofs.Changes.{moved-out, moved-in}
+use Rattle.patch.proofs.change.moved.Statement.{statement}
+use Rattle.patch.proofs.change.moved.Tie as tie
+use Rattle.patch.proofs.change.moved.Reads as reads
+use Rattle.patch.proofs.change.moved.Lts as lts
+use Rattle.patch.proofs.change.plus.Reads as plus-reads
+use Rattle.run.proofs.input.in_type.Reads as in-type-reads
+
+plus-requires : tie.Need-plus-requires
+plus-requires c κs = search needs
+
+in-type-requires : tie.Need-in-type-requires
+in-type-requires c κs = search needs
+
+returns : tie.Need-returns
+returns c =
+    let tested = c .before in
+    let summed = tested .before in
+    let start = summed .before in
+    moved-out (start .args .old) (start .args .change) (start .pre .0) (start .pre .1) (tyOf (start .args .kind))
+    (summed .plus .result) (word _ (summed .plus .ok)) (summed .plus .ensures)
+    (sym (tested .in-type .ensures) ∙ not-true _ (c .if1 .taken))
+
+returns-2 : tie.Need-returns-2
+returns-2 c =
+    let tested = c .before in
+    let summed = tested .before in
+    let start = summed .before in
+    moved-in (start .args .old) (start .args .change) (start .pre .0) (start .pre .1) (tyOf (start .args .kind))
+    (summed .plus .result) (word _ (summed .plus .ok)) (summed .plus .ensures)
+    (sym (tested .in-type .ensures) ∙ not-false _ (c .if1 .left))
+
+pub moved-spec : {M : Type 1} → statement M
+moved-spec = tie.close (tie.spec plus-requires in-type-requires returns returns-2)

@@ -1,0 +1,8 @@
+pub mod Call
+pub mod Change
+pub mod Entry
+pub mod Expression
+pub mod Laws
+pub mod Old
+pub mod Snapshot
+pub mod Statement
