@@ -5,4 +5,5 @@ pub mod check;
 pub mod layout;
 pub mod mentioned;
 pub mod node;
+pub mod paper;
 pub mod uses;
