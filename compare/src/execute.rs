@@ -113,7 +113,7 @@ fn line_difference(case: &Case, line: &str) -> Option<String> {
 }
 
 // What a program writes when it is handed some bytes.
-fn ran(program: &Path, bytes: Vec<u8>) -> Result<Output, String> {
+pub fn ran(program: &Path, bytes: Vec<u8>) -> Result<Output, String> {
     let failed = |why: std::io::Error| format!("{}: {why}", program.display());
     if !program.is_file() {
         return Err(format!("{}: no such file", program.display()));

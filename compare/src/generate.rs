@@ -189,7 +189,7 @@ pub fn session(random: &mut Random, most: usize) -> Session {
 }
 
 // A random program with inputs and a limit, whatever its run will answer.
-fn untried(random: &mut Random) -> Session {
+pub fn untried(random: &mut Random) -> Session {
     loop {
         let types = random_types(random);
         let budget = random.between(8, 60);
@@ -293,7 +293,7 @@ fn room_for(random: &mut Random, length: usize, aim: Aim) -> usize {
 }
 
 // A statement wrapped until the deepest node has a depth ("Program table").
-fn deep(random: &mut Random, depth: usize) -> Vec<u8> {
+pub fn deep(random: &mut Random, depth: usize) -> Vec<u8> {
     let mut program = Program::new(vec![NUMBER, TRUTH]);
     let operators = random.below(depth - 2);
     let mut inner = program.add(3, 0, 0, &[]);
@@ -342,7 +342,7 @@ fn small_table(random: &mut Random) -> Vec<u8> {
 
 // A table that is odd in its whole: a node of no use, an expression as root,
 // 33 or no variables, depth 25 ("Program table").
-fn odd_table(random: &mut Random) -> Vec<u8> {
+pub fn odd_table(random: &mut Random) -> Vec<u8> {
     let types = vec![NUMBER; random.pick(&[1, 2, 3, 33])];
     let mut program = random_program(random, types, 5);
     let mut order = program.in_order();

@@ -16,6 +16,7 @@ pub mod patch;
 pub mod program;
 pub mod random;
 pub mod run;
+pub mod sessions;
 pub mod sharp;
 pub mod table;
 pub mod tally;

@@ -1,7 +1,7 @@
 //! The commands of `compare`.
 
 use compare::case::{bytes_of_hex, hex_of_bytes, parse_file, print, Case};
-use compare::{define, execute, generate, interpret, listing, table, tally, teeth, text};
+use compare::{define, execute, generate, interpret, listing, sessions, table, tally, teeth, text};
 use std::io::{Read, Write};
 
 const HELP: &str = "compare: an independent interpreter, and the cases it is compared on
@@ -32,6 +32,13 @@ const HELP: &str = "compare: an independent interpreter, and the cases it is com
                                  --patches unless there are COUNT patches, half
                                  of them of damaged records, and chains
   compare list FILE              the listing of one session's bytes
+  compare listed FILE [PROGRAM]  hold the interpreter, and the program patchlist of
+                                 this repository or another, to the listings of a
+                                 file of sessions
+  compare listings SEED COUNT [PROGRAM]
+                                 hold the program patchlist to the interpreter's
+                                 listings of COUNT generated sessions, a fourth
+                                 of them damaged
   compare session SCRIPT LIMIT INPUT.. [/ CHANGE..]..
                                  write a session's bytes: the table of a script
                                  text, a limit, V inputs, and behind each lone
@@ -69,6 +76,10 @@ fn main() {
             number(count, "count").and_then(|count| command_tally(file, Wanted::Patches(count)))
         }
         ["list", file] => command_list(file),
+        ["listed", file] => command_listed(file, None),
+        ["listed", file, program] => command_listed(file, Some(program)),
+        ["listings", seed, count] => command_listings(seed, count, None),
+        ["listings", seed, count, program] => command_listings(seed, count, Some(program)),
         ["session", script, limit, rest @ ..] => command_session(script, limit, rest),
         ["assemble", script] => command_assemble(script),
         ["show", hex] => command_show(hex),
@@ -158,12 +169,17 @@ fn command_define(file: &str, root: Option<&str>) -> Ended {
     }
 }
 
+// The program of this name that rt has built in this repository, or another.
+fn built(name: &str, other: Option<&str>) -> Result<std::path::PathBuf, String> {
+    match other {
+        Some(program) => Ok(std::path::PathBuf::from(program)),
+        None => Ok(define::repository()?.join("target/bin").join(name)),
+    }
+}
+
 // compare execute FILE [PROGRAM]
 fn command_execute(file: &str, program: Option<&str>) -> Ended {
-    let program = match program {
-        Some(program) => std::path::PathBuf::from(program),
-        None => define::repository()?.join("target/bin/calls"),
-    };
+    let program = built("calls", program)?;
     match read_cases(file)? {
         Ok(cases) => execute::execute(&cases, &program),
         Err(status) => Ok(status),
@@ -225,6 +241,27 @@ fn command_tally(file: &str, wanted: Wanted) -> Ended {
 fn command_list(file: &str) -> Ended {
     show(&listing::listing(&read(file)?));
     Ok(0)
+}
+
+// compare listed FILE [PROGRAM]
+fn command_listed(file: &str, program: Option<&str>) -> Ended {
+    let program = built("patchlist", program)?;
+    let text = String::from_utf8(read(file)?).map_err(|_| format!("{file}: not text"))?;
+    match sessions::parse_file(&text) {
+        Ok(stored) => sessions::hold_stored(&stored, &program),
+        Err(why) => {
+            eprintln!("compare: {file}: {why}");
+            Ok(1)
+        }
+    }
+}
+
+// compare listings SEED COUNT [PROGRAM]
+fn command_listings(seed: &str, count: &str, program: Option<&str>) -> Ended {
+    let seed: u64 = number(seed, "seed")?;
+    let count: usize = number(count, "count")?;
+    let program = built("patchlist", program)?;
+    sessions::hold_generated(&sessions::generate(seed, count), &program)
 }
 
 // The table of a script text's file; a wrong text ends with status 1.

@@ -5,69 +5,24 @@ use crate::stream::MOST_ROOM;
 use crate::stream::MOST_WORDS;
 use crate::stream::fill_bytes;
 use crate::stream::fill_words;
-use crate::text::MOST_TEXT;
-use crate::text::add;
-use crate::text::add_count;
-use crate::text::add_next;
-use crate::text::add_words;
-use crate::text::flush;
 use patch::call::patch;
 use run::call::run;
 use table::answer::Answer;
 use table::answer::Outcome;
-use table::answer::Refusal;
 use table::check::check;
+use table::paper::number_of;
+use text::answer::add_counts;
+use text::line::MOST_TEXT;
+use text::line::add;
+use text::line::add_count;
+use text::line::add_words;
+use text::line::flush;
 ghost use mathlib.Core.Path.{_≡_};
 ghost use lib.ListN.{length};
-ghost use Rattle.table.specs.Paper.{numberOf, reasonOf};
-ghost use Rattle.rules.specs.Outcome.{paperNumber};
 ghost use Rattle.calls.specs.Stream.{Within};
-ghost use Rattle.calls.specs.Text.{Gathered};
 
 // What stands in a buffer before a call, so that a word that is not written is seen.
 const BEFORE: i64 = 777777777777;
-
-// The paper's number of a refusal.
-fn refusal_number(reason: Refusal) -> usize
-    ensures { λ r. ⌜ r ≡ paperNumber (reasonOf reason) ⌝ }
-{
-    match reason {
-        Refusal::Header => 1,
-        Refusal::Types => 2,
-        Refusal::Node => 3,
-        Refusal::Use => 4,
-        Refusal::Depth => 5,
-        Refusal::Store => 6,
-        Refusal::Limit => 7,
-        Refusal::Range => 8,
-        Refusal::Fuel => 9,
-        Refusal::Room => 10,
-        Refusal::Change => 11,
-        Refusal::Broken => 12,
-    }
-}
-
-// The paper's number of an outcome: 0 for accepted.
-fn number_of(outcome: Outcome) -> usize
-    ensures { λ r. ⌜ r ≡ numberOf outcome ⌝ }
-{
-    match outcome {
-        Outcome::Accepted => 0,
-        Outcome::Refused(reason) => refusal_number(reason),
-    }
-}
-
-// Adds the five counts of an answer, each behind a space; returns the place behind them.
-fn add_counts(text: &mut [u8; MOST_TEXT], at: usize, answer: Answer) -> usize
-    requires { ⌜ Gathered (now text) at ⌝ }
-    ensures { λ r. ⌜ Gathered (now (text .exit)) r ⌝ }
-{
-    let steps = add_next(text, at, answer.steps as u64);
-    let walked = add_next(text, steps, answer.walked as u64);
-    let reused = add_next(text, walked, answer.reused as u64);
-    let fresh = add_next(text, reused, answer.fresh as u64);
-    add_next(text, fresh, answer.length as u64)
-}
 
 // Writes the line of a table check.
 fn say_check(outcome: Outcome) {

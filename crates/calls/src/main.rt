@@ -20,13 +20,11 @@
 // read, as many for the buffer, and 4,096 for the text of its line.
 mod execute;
 mod stream;
-mod text;
-mod word;
 
 use crate::execute::execute;
 use crate::stream::Asked;
 use crate::stream::next_call;
-use crate::text::say;
+use text::line::say;
 
 // Says that the input ends inside a call; returns false, that nothing follows.
 fn ends_inside() -> bool {

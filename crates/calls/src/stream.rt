@@ -1,10 +1,10 @@
 // Reading calls from standard input.
-use crate::word::signed;
-use table::access::pair;
+use text::word::decode;
+use text::word::half;
 ghost use mathlib.Core.Path.{_≡_};
-ghost use Prim.Native.Nat.{_+_, _≤_, _<_};
+ghost use Prim.Native.Nat.{_≤_};
 ghost use lib.ListN.{length};
-ghost use Rattle.calls.specs.Stream.{u32, wordAt, Decoded, Within, Opens, Fitting};
+ghost use Rattle.calls.specs.Stream.{Within, Opens, Fitting};
 
 pub const MOST_BYTES: usize = 8192;
 
@@ -33,23 +33,6 @@ pub enum Asked {
     End,
     Cut,
     Unknown,
-}
-
-// The 32 bits at a place.
-fn half(s: &[u8], at: usize) -> usize
-    requires { ⌜ at + 4 ≤ length (now s) ⌝ }
-    ensures { λ r. ⌜ (r ≡ u32 (now (s .entry)) at) × (r < 4294967296) ⌝ }
-{
-    pair(s, at) + 65536 * pair(s, at + 2)
-}
-
-// The signed word at a place.
-fn word_at(s: &[u8; WORD_BYTES], at: usize) -> i64
-    requires { ⌜ (at + 8 ≤ 32768) × (length (now s) ≡ 32768) ⌝ }
-    ensures { λ r. ⌜ r ≡ wordAt (now (s .entry)) at ⌝ }
-{
-    let bits = half(s, at) + 4294967296 * half(s, at + 4);
-    signed(bits as u64)
 }
 
 // The call that these numbers open, where its kind is known and its sizes are within their limits.
@@ -131,16 +114,4 @@ pub fn fill_words(words: &mut [i64; MOST_WORDS], n: usize) -> bool
     }
     decode(&bytes, words, n);
     true
-}
-
-// Sets the first n words to those of the bytes.
-fn decode(bytes: &[u8; WORD_BYTES], words: &mut [i64; MOST_WORDS], n: usize)
-    requires { ⌜ (n ≤ 4096) × (length (now words) ≡ 4096) × (length (now bytes) ≡ 32768) ⌝ }
-    ensures { λ _. ⌜ (length (now (words .exit)) ≡ 4096) × Decoded (now (bytes .entry)) n (now (words .exit)) ⌝ }
-{
-    let mut i = 0;
-    while i < n {
-        words[i] = word_at(bytes, 8 * i);
-        i += 1;
-    }
 }

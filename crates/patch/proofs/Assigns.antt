@@ -7,11 +7,9 @@ use mathlib.Core.Option.{some}
 use mathlib.Core.List.{List, []}
 use lib.ListN.{length, set, length-set}
 use lib.IntN.{ℤ}
-use mir.Syntax.{w64}
-use mir.Val.{toZ, ofZ}
 use Rattle.rules.specs.Outcome.{accepted, refused, _>>=_, broken}
 use Rattle.rules.specs.Outcome as Paper
-use Rattle.rules.specs.Value.{Ty, typeOf, zeros, mostVariables}
+use Rattle.rules.specs.Value.{Ty, typeOf}
 use Rattle.rules.specs.Tree.{Statement}
 use Rattle.rules.specs.Table.{typesOf, expression}
 use Rattle.rules.specs.Patch as Rules
@@ -34,10 +32,10 @@ use Rattle.patch.specs.Laws.Expression.{shift-sized}
 use Rattle.patch.specs.declared.entry.Reached.{Reached}
 use Rattle.patch.specs.declared.expression.Shifted.{Shifted}
 use Rattle.patch.specs.declared.expression.Shifted.the-variants.{Is, Refused}
-use Rattle.patch.proofs.Recalling.{near-plain}
-use Rattle.patch.proofs.Shifts.{Got, got, got-near}
+use Rattle.patch.proofs.Shifts.{Got, got, got-near, is-refused, refused-of}
 use Rattle.patch.proofs.Nodes.{for-tree, as-run, read-node}
 use Rattle.patch.proofs.Heads.{part-shiftable}
+use Rattle.patch.proofs.Changes.{near-kept, kept}
 
 -- ---- the walk behind an assign
 
@@ -103,15 +101,9 @@ module _ {bytes : List ℕ} {base : ℕ} {lists : List ℕ} {node : ℕ} {old : 
       pub assign-refused : {q : Refusal} → a ≡ Refused q → (r : Reached) → r .outcome ≡ Stop q → (after : List ℤ) → WalksTo bytes node old end s r out after
       assign-refused {q} e r stops after = each r out after (by shifts answer)
         where
-          is-refused : {x : ℤ} {i : ℕ} → _≡_ {A = Shifted} (Is x i) (Refused q) → ⊥
-          is-refused f = let z : _≡_ {A = ℕ} 0 1 = cc in omega arith
-
-          reason : {u : Refusal} → _≡_ {A = Shifted} (Refused u) (Refused q) → q ≡ u
-          reason f = cc
-
           by : (o : Paper.Outcome Rules.Shifted) → ShiftedAs o a out (s .at) one → WalkAs (o >>= further) s r old end out after
           by (accepted x) f = absurd (is-refused (sym (f .0) ∙ e))
-          by (refused u) f = stops ∙ ap Stop (reason (sym f ∙ e))
+          by (refused u) f = stops ∙ ap Stop (refused-of (sym e ∙ f))
 
       pub value-got : {x : ℤ} {n : ℕ} → a ≡ Is x n → Got (its .e) shifts old (s .from) end x n out (s .at) one
       value-got {x} {n} e = got (its .e) old (s .from) end (h .sound .inside) x n out (s .at) one shifts (shift-sized (its .e) changes (part old (s .from) end)) answer e
@@ -138,11 +130,11 @@ module _ {bytes : List ℕ} {base : ℕ} {lists : List ℕ} {node : ℕ} {old : 
       unfolding finished
       walk-is = rw (g .comes, over) refl
 
-      pub assign-answer : {v : ℕ} → v ≡ nodeAt bytes node .tag → (r : Reached) → AssignedAs s v (toZ w64 (ofZ w64 x)) end n r → WalksTo bytes node old end s r out one
+      pub assign-answer : {v : ℕ} → v ≡ nodeAt bytes node .tag → (r : Reached) → AssignedAs s v (kept x) end n r → WalksTo bytes node old end s r out one
       unfolding noSteps stepsOf
       assign-answer {v} tagged r a =
           let near : Near x = got-near changes (h .sound .near) g in
-          let b : AssignedAs s v x end n r = subst (λ (z : ℤ). AssignedAs s v z end n r) (near-plain x near) a in
+          let b : AssignedAs s v x end n r = subst (λ (z : ℤ). AssignedAs s v z end n r) (near-kept x near) a in
           let leaves : r .left + (0 + 0 + 0) ≡ s .left = omega (arith, b .left) in
           let walks : r .walked ≡ s .walked + 0 = omega (arith, b .walked) in
           let reuses : r .reused ≡ s .reused + 0 = omega (arith, b .reused) in

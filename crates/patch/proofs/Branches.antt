@@ -4,7 +4,7 @@
 use mathlib.Core.Path.{_≡_, refl, sym, ap, ap₂, _∙_, subst}
 use Prim.Native.Nat.{ℕ, _+_, _-_, _*_, _≤_, _<_}
 use native.Mathlib.Omega.{arith}
-use mathlib.Core.Bool.{Bool, true, false}
+use mathlib.Core.Bool.{Bool, true, false, true≢false}
 use mathlib.Core.Option.{Option, some}
 use mathlib.Core.List.{List}
 use lib.ListN.{length, set}
@@ -12,7 +12,7 @@ use lib.IntN.{ℤ}
 use Rattle.numbers.specs.Lay.{lay, set-lay}
 use Rattle.rules.specs.Outcome.{accepted, refused, _>>=_, choose, broken}
 use Rattle.rules.specs.Outcome as Paper
-use Rattle.rules.specs.Value.{Ty, at, zeros, mostVariables}
+use Rattle.rules.specs.Value.{Ty, at}
 use Rattle.rules.specs.Tree.{Expression, Statement, mentions}
 use Rattle.rules.specs.Table.{typesOf, Part, statement}
 use Rattle.rules.specs.Run.{holds, ifWords}
@@ -30,12 +30,12 @@ use Rattle.patch.specs.Change.{AllNear}
 use Rattle.patch.specs.Old.{part}
 use Rattle.patch.specs.Snapshot.{Standing, MovedAs, olds}
 use Rattle.patch.specs.Laws.Snapshot.{olds-long, moved-long}
-use Rattle.patch.specs.Laws.Head.{ForkAt, fork-at}
+use Rattle.patch.specs.Laws.Head.{ForkAt, fork-at, accepted-of}
 use Rattle.patch.specs.Entry.{Sound, Came, VisitAs, whole, WalkAs, AdvancedBy}
 use Rattle.patch.specs.Statement.{Node, Visitable, VisitsTo, forkOf, forkLaid, Forked, KeepsTo}
 use Rattle.patch.specs.declared.entry.Reached.{Reached}
 use Rattle.patch.proofs.Walks.{Gone, gone, handed-up, sound-advanced}
-use Rattle.patch.proofs.Nodes.{list-is, named-of, child}
+use Rattle.patch.proofs.Nodes.{list-is, named-of, child, same-tree}
 use Rattle.patch.proofs.Sequences.{visit-last}
 
 -- ---- the words of an if, laid in the order of the code: the condition's word last
@@ -69,10 +69,7 @@ module _ {bytes : List ℕ} {base : ℕ} {lists : List ℕ} {node size : ℕ} {o
   same-if p q = let r : _≡_ {A = Option Part} (some (statement (Statement.if _ _ _ _))) (some (statement (Statement.if _ _ _ _))) = sym p ∙ q in (cc, (cc, (cc, cc)))
 
   listed : vs ≡ mentions (Statement.if node (h .e) (h .a) (h .b))
-  listed = list-is k ∙ ap mentions (tree-is (sym (k .here) ∙ h .here))
-    where
-      tree-is : {t u : Statement} → some (statement t) ≡ some (statement u) → t ≡ u
-      tree-is e = cc
+  listed = list-is k ∙ ap mentions (same-tree (k .here) (h .here))
 
   forks : forkOf (typesOf bytes) vs (h .e) (s .left) (s .changes .values) (part old (s .from) end) ≡ accepted (h .fork)
   forks = ap (λ (ws : List ℕ). forkOf (typesOf bytes) ws (h .e) (s .left) (s .changes .values) (part old (s .from) end)) listed ∙ h .forks
@@ -93,30 +90,21 @@ module _ {bytes : List ℕ} {base : ℕ} {lists : List ℕ} {node size : ℕ} {o
   ifOf out Q (Statement.sequence n a b) = Unit {0}
   ifOf out Q (Statement.repeat n e a) = Unit {0}
 
-  fork-of : {f g : Fork} → accepted f ≡ accepted g → f ≡ g
-  fork-of e = cc
-
   pub if-each : (out : List ℤ) (Q : Statement → Statement → Fork → List ℤ → Type 0) → ((out₀ : List ℤ) → out ≡ forkLaid out₀ (s .at) (h .fork) → Q (h .a) (h .b) (h .fork) out₀)
       → (n : ℕ) (e : Expression) (a b : Statement) → partAt bytes node ≡ some (statement (Statement.if n e a b))
       → (f : Fork) → forkOf (typesOf bytes) (mentions (Statement.if n e a b)) e (s .left) (s .changes .values) (part old (s .from) end) ≡ accepted f
       → (out₀ : List ℤ) → out ≡ forkLaid out₀ (s .at) f → Q a b f out₀
-  if-each out Q w n e a b here = subst (ifOf out Q) (tree-is (sym (h .here) ∙ here))
-      (λ f g out₀ laid. subst (λ (x : Fork). Q (h .a) (h .b) x out₀) (fork-of (sym (h .forks) ∙ g))
-      (w out₀ (laid ∙ ap (forkLaid out₀ (s .at)) (sym (fork-of (sym (h .forks) ∙ g))))))
-    where
-      tree-is : {t u : Statement} → some (statement t) ≡ some (statement u) → t ≡ u
-      tree-is p = cc
+  if-each out Q w n e a b here = subst (ifOf out Q) (same-tree (h .here) here)
+      (λ f g out₀ laid. subst (λ (x : Fork). Q (h .a) (h .b) x out₀) (accepted-of (sym (h .forks) ∙ g))
+      (w out₀ (laid ∙ ap (forkLaid out₀ (s .at)) (sym (accepted-of (sym (h .forks) ∙ g))))))
 
   -- ---- the branches
 
   own-trees : (its .s ≡ h .a) × (its .t ≡ h .b)
-  own-trees = of (sym (its .is) ∙ tree-is (sym (k .here) ∙ h .here))
+  own-trees = of (sym (its .is) ∙ same-tree (k .here) (h .here))
     where
       of : {n m : ℕ} {e f : Expression} {a b c d : Statement} → Statement.if n e a b ≡ Statement.if m f c d → (a ≡ c) × (b ≡ d)
       of p = (cc, cc)
-
-      tree-is : {t u : Statement} → some (statement t) ≡ some (statement u) → t ≡ u
-      tree-is p = cc
 
   pub branch-here : (b : Bool) → partAt bytes (takenNode bytes node b) ≡ some (statement (choose b (h .a) (h .b)))
   branch-here b = taken-here k (h .entered .kinded) b
@@ -171,11 +159,11 @@ module _ {bytes : List ℕ} {base : ℕ} {lists : List ℕ} {node size : ℕ} {o
         ∙ ap (λ (ws : List ℤ). visit same (walk types same) true (u .left) (u .changes .values) ws >>= further vs (olds old (s .from + 1 + length vs) vs))
         (forked-at .test .rest ∙ ap (λ (p : ℕ). part old p end) place)
 
-    pub kept-visitable : (i : ℕ) → i ≡ takenNode bytes node (holds z) → Visitable bytes base lists i old end u
-    kept-visitable i e = subst (λ (j : ℕ). Visitable bytes base lists j old end u) (sym e)
+    pub kept-visitable : {i : ℕ} → i ≡ takenNode bytes node (holds z) → Visitable bytes base lists i old end u
+    kept-visitable e = subst (λ (j : ℕ). Visitable bytes base lists j old end u) (sym e)
         (record { known = branch-known (holds z); sound = sound-advanced sound step fork-inside })
 
-    module _ (i : ℕ) (is : i ≡ takenNode bytes node (holds z)) (r : Reached) (out one : List ℤ) (p : VisitsTo bytes i true old end u r out one) where
+    module _ {i : ℕ} (is : i ≡ takenNode bytes node (holds z)) (r : Reached) (out one : List ℤ) (p : VisitsTo bytes i true old end u r out one) where
       visited : VisitAs branched u r old end out one
       visited = p same (ap (partAt bytes) is ∙ branch-here (holds z))
 
@@ -216,23 +204,17 @@ module _ {bytes : List ℕ} {base : ℕ} {lists : List ℕ} {node size : ℕ} {o
           kept-broken wrong x stops final = each out final x λ out₀ laid. subst (λ (o : Paper.Outcome Walked). WalkAs o s x old end out₀ final) (sym after-visit)
               (stopped (movedAll types vs (olds old (s .from + 1 + length vs) vs) (r .changes .values)) out₀ m)
             where
-              differ : {b : Bool} → b ≡ true → b ≡ false → ⊥
-              differ e f = let y : _≡_ {A = ℕ} 0 1 = cc in omega arith
-
               stopped : (o : Paper.Outcome (List ℤ)) (out₀ : List ℤ) → MovedAs o fits one (s .at + 1 + length vs) two → WalkAs (o >>= λ news. accepted (closed v news)) s x old end out₀ final
-              stopped (accepted news) out₀ g = absurd (differ (g .0) wrong)
+              stopped (accepted news) out₀ g = absurd (true≢false (sym (g .0) ∙ wrong))
               stopped (refused q) out₀ g = stops ∙ ap (λ (p : Paper.Refusal). Refused (refusalFor p)) (sym (g .1))
 
           pub kept-answer : fits ≡ true → (final : List ℤ) → final ≡ set two (s .at) (at old (s .from)) → KeepsTo bytes node old end s r out final
           kept-answer right final last = each out final r λ out₀ laid. subst (λ (o : Paper.Outcome Walked). WalkAs o s r old end out₀ final) (sym after-visit)
               (ended (movedAll types vs (olds old (s .from + 1 + length vs) vs) (r .changes .values)) refl out₀ laid m)
             where
-              differ : {b : Bool} → b ≡ true → b ≡ false → ⊥
-              differ e f = let y : _≡_ {A = ℕ} 0 1 = cc in omega arith
-
               ended : (o : Paper.Outcome (List ℤ)) → movedAll types vs (olds old (s .from + 1 + length vs) vs) (r .changes .values) ≡ o → (out₀ : List ℤ) → out ≡ forkLaid out₀ (s .at) (h .fork)
                   → MovedAs o fits one (s .at + 1 + length vs) two → WalkAs (o >>= λ news. accepted (closed v news)) s r old end out₀ final
-              ended (refused q) is out₀ laid g = absurd (differ right (g .0))
+              ended (refused q) is out₀ laid g = absurd (true≢false (sym right ∙ g .0))
               ended (accepted news) is out₀ laid g =
                   let f = h .fork in
                   let w = length vs in

@@ -4,7 +4,7 @@
 use mathlib.Core.Path.{_≡_, refl, sym, ap, ap₂, _∙_, subst}
 use Prim.Native.Nat.{ℕ, zero, suc}
 use native.Mathlib.Omega.{arith}
-use mathlib.Core.Bool.{true, false, not}
+use mathlib.Core.Bool.{true, false, not, Bool}
 use mathlib.Core.Logic.{_⊎_, inl, inr}
 use lib.IntN.{ℤ, pos, _+ℤ_, _-ℤ_}
 use mir.Syntax.{w64}
@@ -15,9 +15,12 @@ use Rattle.numbers.specs.Laws.{decide, eqZ-true, eqZ-refl}
 use Rattle.numbers.specs.Bounds.{mag-add, mag-sub}
 use Rattle.rules.specs.Value.{Ty, inType, bit, differ, plus}
 use Rattle.rules.specs.Table.{tyOf}
-use Rattle.run.specs.Laws.Numbers.{word, bit-back}
+use Rattle.run.specs.Laws.Numbers.{word, bit-back, word-back, mag-in, plain}
 use Rattle.run.specs.declared.number.Computed.the-variants.{Is, Outside}
 use Rattle.patch.specs.Change.{Near, movedAs}
+use Rattle.run.specs.Code.{Number}
+use Rattle.rules.specs.Outcome.{choose}
+use Rattle.run.specs.declared.number.Computed.{Computed}
 
 -- ---- the type that a byte names
 
@@ -30,11 +33,43 @@ unfolding tyOf
 truth-type zero h = absurd (h refl)
 truth-type (suc n) h = refl
 
--- ---- two words
+-- ---- a word that is stored is read back
 
--- a word that is stored is read back
 abbrev pub kept : ℤ → ℤ
 kept z = toZ w64 (ofZ w64 z)
+
+pub near-kept : (z : ℤ) → Near z → kept z ≡ z
+near-kept z h = word-back z (omega arith)
+
+pub kept-near : (z : ℤ) → Near z → Near (kept z)
+kept-near z h = subst Near (sym (near-kept z h)) h
+
+pub number-near : (z : ℤ) → Number z → Near z
+number-near z h = omega (arith, mag-in z h)
+
+pub kept-number : (z : ℤ) → Number z → Number (kept z)
+kept-number z h = subst Number (sym (plain z h)) h
+
+-- ---- a number that was computed, or none
+
+pub chosen-in : (b : Bool) (z : ℤ) {w : ℤ} → choose b (Is z) Outside ≡ Is w → (b ≡ true) × (w ≡ z)
+chosen-in true z {w} e = (refl, same e)
+  where
+    same : {w : ℤ} → _≡_ {A = Computed} (Is z) (Is w) → w ≡ z
+    same p = cc
+chosen-in false z {w} e = absurd (apart e)
+  where
+    apart : {w : ℤ} → _≡_ {A = Computed} Outside (Is w) → ⊥
+    apart p = let q : _≡_ {A = ℕ} 0 1 = cc in omega arith
+
+pub chosen-out : (b : Bool) (z : ℤ) → choose b (Is z) Outside ≡ Outside → b ≡ false
+chosen-out true z e = absurd (apart e)
+  where
+    apart : _≡_ {A = Computed} (Is z) Outside → ⊥
+    apart p = let q : _≡_ {A = ℕ} 0 1 = cc in omega arith
+chosen-out false z e = refl
+
+-- ---- two words
 
 module _ (x y : ℤ) (fx : SFits w64 x) (fy : SFits w64 y) where
   pub both-kept : {A : Type 0} (f : ℤ → ℤ → A) → f (kept x) (kept y) ≡ f x y

@@ -37,7 +37,7 @@ held v values words at few each is near =
     let long : length values ≡ 32 = ap length is ∙ length-padded words (omega (arith, few, each)) in
     record { long = long; few = few; place = near }
 
-module _ (v limit : ℕ) (inputs outputs : Store) (r : Reached) (now : List ℤ) (h : Completable v limit inputs outputs r now) where
+module _ {v limit : ℕ} {inputs outputs : Store} {r : Reached} {now : List ℤ} (h : Completable v limit inputs outputs r now) where
   abbrev w : Visited
   w = h .visited
 

@@ -9,12 +9,13 @@ use lib.ListN.{length, set, take, length-set}
 use lib.Seq.{set-out, take-all}
 use lib.IntN.{ℤ, pos}
 use mir.Syntax.{w64}
-use mir.Val.{SFits, toZ, ofZ}
+use mir.Val.{SFits}
 use Rattle.numbers.specs.Lay.{lay}
 use Rattle.rules.specs.Value.{at}
 use Rattle.run.specs.Laws.Laying.{Laid, laid-by}
 use Rattle.patch.specs.Old.{part, Inside}
 use Rattle.patch.specs.Laws.Old.{part-at, part-long}
+use Rattle.patch.proofs.Changes.{kept}
 
 -- words laid past the end change nothing
 lay-past : (out : List ℤ) (place : ℕ) (ws : List ℤ) → length out ≤ place → lay out place ws ≡ out
@@ -37,18 +38,18 @@ pub record Counted (words room count : ℕ) : Type 0 where
   pub inside : count ≤ room
   pub most : (words ≤ count) ⊎ (room ≤ count)
 
-module _ (old : List ℤ) (from stop : ℕ) (lies : Inside old from stop) (out₀ : List ℤ) (place : ℕ) where
+module _ {old : List ℤ} {from stop : ℕ} (lies : Inside old from stop) {out₀ : List ℤ} {place : ℕ} where
   -- a turn copies the next word
-  pub copied-more : (i : ℕ) {out : List ℤ} → Laid out₀ place (part old from stop) i out → i < stop - from → SFits w64 (at old (from + i))
-      → Laid out₀ place (part old from stop) (i + 1) (set out (place + i) (toZ w64 (ofZ w64 (at old (from + i)))))
-  copied-more i laid below fits =
+  pub copied-more : {i : ℕ} {out : List ℤ} → Laid out₀ place (part old from stop) i out → i < stop - from → SFits w64 (at old (from + i))
+      → Laid out₀ place (part old from stop) (i + 1) (set out (place + i) (kept (at old (from + i))))
+  copied-more {i} laid below fits =
       laid-by (pos 0) laid (omega (arith, part-long old from stop (lies .ends)))
       (sym (part-at old from stop i below)) fits refl
 
   -- the last turn leaves them all
-  pub copied-all : {count : ℕ} → Counted (stop - from) (length out₀ - place) count → (i : ℕ) {out : List ℤ} → Laid out₀ place (part old from stop) i out
+  pub copied-all : {count : ℕ} → Counted (stop - from) (length out₀ - place) count → {i : ℕ} {out : List ℤ} → Laid out₀ place (part old from stop) i out
       → count ≤ i → i ≤ count → out ≡ lay out₀ place (part old from stop)
-  copied-all {count} counted i laid low high = laid .is ∙ reach (counted .most)
+  copied-all {count} counted {i} laid low high = laid .is ∙ reach (counted .most)
     where
       reach : (stop - from ≤ count) ⊎ (length out₀ - place ≤ count) → lay out₀ place (take i (part old from stop)) ≡ lay out₀ place (part old from stop)
       reach (inl all) = ap (lay out₀ place) (take-all i (part old from stop) (omega (arith, part-long old from stop (lies .ends))))

@@ -9,12 +9,10 @@ use mathlib.Core.Option.{some}
 use mathlib.Core.List.{List}
 use lib.ListN.{length}
 use lib.IntN.{ℤ}
-use mir.Syntax.{w64}
-use mir.Val.{toZ, ofZ}
 use Rattle.numbers.specs.Lay.{lay}
 use Rattle.rules.specs.Outcome.{accepted, refused, _>>=_, broken}
 use Rattle.rules.specs.Outcome as Paper
-use Rattle.rules.specs.Value.{Ty, at, inType, zeros, mostVariables}
+use Rattle.rules.specs.Value.{Ty, at, inType}
 use Rattle.rules.specs.Tree.{Statement, mentions}
 use Rattle.rules.specs.Table.{typesOf, tyOf, expression}
 use Rattle.rules.specs.Patch as Rules
@@ -32,6 +30,7 @@ use Rattle.patch.specs.declared.expression.Shifted.{Shifted}
 use Rattle.patch.specs.declared.expression.Shifted.the-variants.{Refused}
 use Rattle.patch.proofs.Nodes.{for-tree, as-run}
 use Rattle.patch.proofs.Heads.{HeadGot, head-broken, part-shiftable}
+use Rattle.patch.proofs.Changes.{kept}
 
 pub number-byte : tyOf 0 ≡ Ty.number
 unfolding tyOf
@@ -79,10 +78,10 @@ module _ {bytes : List ℕ} {base : ℕ} {lists : List ℕ} {node : ℕ} {old : 
 
     -- the count as the code reads it
     abbrev was : ℤ
-    was = toZ w64 (ofZ w64 (at old (s .from)))
+    was = kept (at old (s .from))
 
     was-is : was ≡ g .head .word
-    was-is = ap (λ (z : ℤ). toZ w64 (ofZ w64 z)) (sym (g .reads .word)) ∙ plain (g .head .word) (g .reads .typed)
+    was-is = ap (λ (z : ℤ). kept z) (sym (g .reads .word)) ∙ plain (g .head .word) (g .reads .typed)
 
     pub count-number : Number was
     count-number = ap (inType Ty.number) was-is ∙ g .reads .typed

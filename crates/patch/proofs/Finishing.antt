@@ -33,7 +33,7 @@ use Rattle.patch.proofs.Completing.{padded-front}
 use Rattle.patch.proofs.Testing.{ended}
 use Rattle.patch.proofs.Rooting.{all-sized, types-are, count-is, whole, given-long, changes-long, changes-near, goes-on}
 
-module _ (bytes : List ℕ) (old : List ℤ) (changes : Store) (r : Reached) (out : List ℤ) (h : Finishable bytes old changes r out) where
+module _ {bytes : List ℕ} {old : List ℤ} {changes : Store} {r : Reached} {out : List ℤ} (h : Finishable bytes old changes r out) where
   abbrev given : List ℤ
   given = h .rooted .given
 
@@ -47,13 +47,13 @@ module _ (bytes : List ℕ) (old : List ℤ) (changes : Store) (r : Reached) (ou
   limit = natAbs (limitOf old)
 
   pub table-sized : Sized bytes
-  table-sized = all-sized bytes old given (h .rooted .start)
+  table-sized = all-sized (h .rooted .start)
 
   pub header-whole : Whole types old (h .rooted .start .ready .header)
-  header-whole = whole bytes old given (h .rooted .start)
+  header-whole = whole (h .rooted .start)
 
   many : length types ≡ variables bytes
-  many = count-is bytes old given (h .rooted .start)
+  many = count-is (h .rooted .start)
 
   pub room : 3 + 2 * variables bytes ≤ length old
   room = omega (arith, many, header-whole .room)
@@ -73,38 +73,38 @@ module _ (bytes : List ℕ) (old : List ℤ) (changes : Store) (r : Reached) (ou
   outs = plusAll types (outputsOf types old) (w .changes)
 
   pub each-in : length ins ≡ variables bytes
-  each-in = sums-length bytes table-sized (inputsOf types old) given (header-whole .inputs) (omega (arith, given-long bytes old given (h .rooted .start)))
+  each-in = sums-length table-sized (inputsOf types old) given (header-whole .inputs) (omega (arith, given-long (h .rooted .start)))
 
   pub each-out : length outs ≡ variables bytes
-  each-out = sums-length bytes table-sized (outputsOf types old) (w .changes) (header-whole .outputs) (omega (arith, few, ap length (h .came .changes), h .came .sound .long))
+  each-out = sums-length table-sized (outputsOf types old) (w .changes) (header-whole .outputs) (omega (arith, few, ap length (h .came .changes), h .came .sound .long))
 
-  module _ (v : ℕ) (iv : v ≡ variables bytes) where
+  module _ {v : ℕ} (iv : v ≡ variables bytes) where
     pub inputs-summed : Sums bytes (take (3 + v - 3) (drop 3 old)) (changes .values)
     inputs-summed = record {
       sized = table-sized;
-      fits = ap (fit types) (inputs-are bytes table-sized old v iv) ∙ header-whole .inputs;
-      long = changes-long bytes old given (h .rooted .start) (changes .values) (h .rooted .whole);
-      near = changes-near bytes old given (h .rooted .start) (changes .values) (h .rooted .whole);
+      fits = ap (fit types) (inputs-are table-sized old iv) ∙ header-whole .inputs;
+      long = changes-long (h .rooted .start) (changes .values) (h .rooted .whole);
+      near = changes-near (h .rooted .start) (changes .values) (h .rooted .whole);
     }
 
     pub outputs-summed : Sums bytes (take (3 + 2 * v - (3 + v)) (drop (3 + v) old)) (r .changes .values)
     outputs-summed = record {
       sized = table-sized;
-      fits = ap (fit types) (outputs-are bytes table-sized old v iv) ∙ header-whole .outputs;
+      fits = ap (fit types) (outputs-are table-sized old iv) ∙ header-whole .outputs;
       long = h .came .sound .long;
       near = h .came .sound .near;
     }
 
     pub inputs-made : {values : List ℤ} → values ≡ padded (plusAll types (take (3 + v - 3) (drop 3 old)) (changes .values)) → values ≡ padded ins
     inputs-made e =
-        let long = given-long bytes old given (h .rooted .start) in
+        let long = given-long (h .rooted .start) in
         let front : take (length types) given ≡ given = take-all (length types) given (omega (arith, many, long)) in
         e ∙ ap padded
-        (ap₂ {C = List ℤ} (plusAll types) (inputs-are bytes table-sized old v iv) (h .rooted .whole ∙ ap padded (sym front))
+        (ap₂ {C = List ℤ} (plusAll types) (inputs-are table-sized old iv) (h .rooted .whole ∙ ap padded (sym front))
         ∙ plus-padded types (inputsOf types old) given (omega (arith, many, long)))
 
     pub outputs-made : {values : List ℤ} → values ≡ padded (plusAll types (take (3 + 2 * v - (3 + v)) (drop (3 + v) old)) (r .changes .values)) → values ≡ padded outs
-    outputs-made e = e ∙ ap padded (ap₂ {C = List ℤ} (plusAll types) (outputs-are bytes table-sized old v iv) (h .came .changes))
+    outputs-made e = e ∙ ap padded (ap₂ {C = List ℤ} (plusAll types) (outputs-are table-sized old iv) (h .came .changes))
 
     -- the outputs that the code tests
     pub outputs-front : {values : List ℤ} → values ≡ padded outs → take (v - 0) values ≡ outs
@@ -123,9 +123,9 @@ module _ (bytes : List ℕ) (old : List ℤ) (changes : Store) (r : Reached) (ou
 
   ends-as : finishPatch bytes old given ≡ (need (fit types outs) broken >>= λ u. accepted end)
   ends-as =
-      goes-on bytes old given (h .rooted .start)
+      goes-on (h .rooted .start)
       ∙ ap (λ (m : Paper.Outcome Visited). m >>= ended given (h .rooted .start .ready .program .types) (h .rooted .start .ready .header)) (comes-so)
-      ∙ ap₂ {C = Paper.Outcome Finished} (λ (ts : List Ty) (x : Header). ended given ts x w) (types-are bytes old given (h .rooted .start)) (header-whole .is)
+      ∙ ap₂ {C = Paper.Outcome Finished} (λ (ts : List Ty) (x : Header). ended given ts x w) (types-are (h .rooted .start)) (header-whole .is)
       ∙ ap (λ (n : ℕ). need (fit types outs) broken >>= λ u. accepted (finished n limit ins outs w)) many
     where
       comes-so : rootVisit (h .rooted .start .ready) (padded given) ≡ accepted w
@@ -137,7 +137,7 @@ module _ (bytes : List ℕ) (old : List ℤ) (changes : Store) (r : Reached) (ou
   pub place : r .at ≤ farthest
   place = omega (arith, h .came .sound .place, h .came .sound .inside .ordered, h .came .sound .inside .ends)
 
-  module _ (f : Bool) (is : f ≡ fit types outs) (a : Answer) (after : List ℤ) where
+  module _ {f : Bool} (is : f ≡ fit types outs) (a : Answer) (after : List ℤ) where
     pub outputs-refused : f ≡ false → Answers (length out) (refused broken) a after → PatchAnswers bytes old given (length out) a after
     outputs-refused e x = subst (λ (m : Paper.Outcome Finished). Answers (length out) (m >>= within (length out)) a after) (sym (ends-as ∙ ap (λ (b : Bool). need b broken >>= λ u. accepted end) (sym is ∙ e))) x
 
@@ -156,7 +156,7 @@ module _ (bytes : List ℕ) (old : List ℤ) (changes : Store) (r : Reached) (ou
       all-answered g x =
           subst (λ (m : Paper.Outcome Finished). Answers (length out) m a after) (sym (room-decides true (le-leb (length (end .words)) (length out) (omega (arith, words-long))))) x
 
-  module _ (v left : ℕ) (inputs outputs : Store) (iv : v ≡ variables bytes) (il : left ≡ limit) (ii : inputs .values ≡ padded ins) (io : outputs .values ≡ padded outs) (g : r .at ≤ length out) where
+  module _ {v left : ℕ} (inputs outputs : Store) (iv : v ≡ variables bytes) (il : left ≡ limit) (ii : inputs .values ≡ padded ins) (io : outputs .values ≡ padded outs) (g : r .at ≤ length out) where
     abbrev pub completable : Completable v left inputs outputs r out
     completable = record {
       few = subst (λ (n : ℕ). n ≤ 32) (sym iv) few;
@@ -180,8 +180,8 @@ module _ (bytes : List ℕ) (old : List ℤ) (changes : Store) (r : Reached) (ou
       room = g;
     }
 
-    pub completed : (f : Bool) → f ≡ fit types outs → f ≡ true → (a : Answer) (after : List ℤ) → CompletesTo v left inputs outputs r out a after → PatchAnswers bytes old given (length out) a after
-    completed f is e a after c =
-        all-answered f is a after e g
+    pub completed : {f : Bool} → f ≡ fit types outs → f ≡ true → (a : Answer) (after : List ℤ) → CompletesTo v left inputs outputs r out a after → PatchAnswers bytes old given (length out) a after
+    completed is e a after c =
+        all-answered is a after e g
         (subst (λ (n : ℕ). Answers (length out) (accepted (finished n limit ins outs w)) a after) iv
         (subst (λ (l : ℕ). Answers (length out) (accepted (finished v l ins outs w)) a after) il (c completable)))

@@ -6,20 +6,19 @@ use Prim.Native.Nat.{ℕ, _+_, _*_, _≤_, _<_}
 use native.Mathlib.Omega.{arith}
 use mathlib.Core.Bool.{Bool, true, false, not}
 use mathlib.Core.Logic.{_⊎_, inl, inr}
-use mathlib.Core.Option.{some}
 use mathlib.Core.List.{List}
 use lib.ListN.{length, drop, set}
 use lib.IntN.{ℤ, pos, _-ℤ_}
 use lib.Signed.{mag}
 use mir.Syntax.{w64}
-use mir.Val.{SFits, toZ, ofZ}
+use mir.Val.{SFits}
 use Rattle.numbers.specs.Lay.{lay}
 use Rattle.numbers.specs.Signed.{eqZ}
 use Rattle.rules.specs.Outcome.{accepted, refused, _>>=_, choose}
 use Rattle.rules.specs.Outcome as Paper
 use Rattle.rules.specs.Value.{Ty, at, inType, bit, differ, plus, zeros, mostVariables, put, minusAll, snapshot}
 use Rattle.rules.specs.Tree.{Statement}
-use Rattle.rules.specs.Table.{readNode, tyOf, typesOf, statement}
+use Rattle.rules.specs.Table.{readNode, tyOf, typesOf}
 use Rattle.rules.specs.Run.{Done, holds, ifWords, run}
 use Rattle.rules.specs.Patch.{Walked, allFresh, flipped}
 use Rattle.rules.specs.Laws.Value.{truth-cases}
@@ -43,9 +42,10 @@ use Rattle.patch.specs.Laws.Snapshot.{in-near, good-near}
 use Rattle.patch.specs.Entry.{Came, WalkAs, whole}
 use Rattle.patch.specs.Statement.{Node, forkLaid, Forked, FlipsTo, Freshened, FreshAs}
 use Rattle.patch.specs.declared.entry.Reached.{Reached}
-use Rattle.patch.proofs.Turns.{near-back, near-passed}
 use Rattle.patch.proofs.Branches.{fork-laid, forked-at, fork-inside, if-each, branch-here, branch-known}
 use Rattle.patch.proofs.Fresh.{Started, store-is, store-known, news-long, settledAs, fresh-came}
+use Rattle.patch.proofs.Changes.{near-kept, kept-near, kept}
+use Rattle.patch.proofs.Nodes.{same-tree}
 
 -- a truth turned round
 turned-small : (x : ℤ) → (x ≡ pos 0) ⊎ (x ≡ pos 1) → mag (pos 1 -ℤ x) < 9_223_372_036_854_775_808
@@ -57,11 +57,11 @@ unfolding holds
 turned-holds x (inl e) = rw e refl
 turned-holds x (inr e) = rw e refl
 
-bit-back : (b : Bool) → toZ w64 (ofZ w64 (bit b)) ≡ bit b
+bit-back : (b : Bool) → kept (bit b) ≡ bit b
 bit-back true = word-back (pos 1) (omega arith)
 bit-back false = word-back (pos 0) (omega arith)
 
-plus-back : (x y : ℤ) → toZ w64 (ofZ w64 (plus Ty.truth x y)) ≡ plus Ty.truth x y
+plus-back : (x y : ℤ) → kept (plus Ty.truth x y) ≡ plus Ty.truth x y
 unfolding plus differ
 plus-back x y = bit-back (not (eqZ x y))
 
@@ -82,13 +82,13 @@ module _ {bytes : List ℕ} {base : ℕ} {lists : List ℕ} {node size : ℕ} {o
 
   -- the condition's word, as it is read
   abbrev read : ℤ
-  read = toZ w64 (ofZ w64 (at old (s .from)))
+  read = kept (at old (s .from))
 
   truth : inType Ty.truth (at old (s .from)) ≡ true
   truth = ap (inType Ty.truth) (sym (forked-at h .condition)) ∙ forked-at h .truth
 
   read-is : read ≡ z
-  read-is = near-back (at old (s .from)) (in-near Ty.truth (at old (s .from)) truth) ∙ sym (forked-at h .condition)
+  read-is = near-kept (at old (s .from)) (in-near Ty.truth (at old (s .from)) truth) ∙ sym (forked-at h .condition)
 
   either : (read ≡ pos 0) ⊎ (read ≡ pos 1)
   either = truth-cases read (ap (inType Ty.truth) read-is ∙ forked-at h .truth)
@@ -97,27 +97,27 @@ module _ {bytes : List ℕ} {base : ℕ} {lists : List ℕ} {node size : ℕ} {o
   pub flip-near : Near (h .fork .test .change)
   flip-near = forked-at h .near (h .entered .sound .near)
 
-  pub flip-passed : (change : ℤ) → Near change → Near read × Near (toZ w64 (ofZ w64 change))
-  flip-passed change near = (near-passed (at old (s .from)) (in-near Ty.truth (at old (s .from)) truth), near-passed change near)
+  pub flip-passed : (change : ℤ) → Near change → Near read × Near (kept change)
+  flip-passed change near = (kept-near (at old (s .from)) (in-near Ty.truth (at old (s .from)) truth), kept-near change near)
 
-  pub flip-word : (change r : ℤ) → Near change → r ≡ plus (tyOf 1) read (toZ w64 (ofZ w64 change)) → toZ w64 (ofZ w64 r) ≡ plus Ty.truth z change
+  pub flip-word : (change r : ℤ) → Near change → r ≡ plus (tyOf 1) read (kept change) → kept r ≡ plus Ty.truth z change
   unfolding tyOf
   flip-word change r near e =
-      let is : r ≡ plus Ty.truth z change = e ∙ ap₂ {C = ℤ} (plus Ty.truth) read-is (near-back change near) in
-      ap (λ (x : ℤ). toZ w64 (ofZ w64 x)) is ∙ plus-back z change
+      let is : r ≡ plus Ty.truth z change = e ∙ ap₂ {C = ℤ} (plus Ty.truth) read-is (near-kept change near) in
+      ap (λ (x : ℤ). kept x) is ∙ plus-back z change
 
   pub turned-fits : SFits w64 (pos 1 -ℤ read)
   turned-fits = word (pos 1 -ℤ read) (turned-small read either)
 
-  pub turned : (i : ℕ) → i ≡ choose (holds (toZ w64 (ofZ w64 (pos 1 -ℤ read)))) (readNode (drop (base + 8 * node) bytes) .b) (readNode (drop (base + 8 * node) bytes) .c)
+  pub turned : {i : ℕ} → i ≡ choose (holds (kept (pos 1 -ℤ read))) (readNode (drop (base + 8 * node) bytes) .b) (readNode (drop (base + 8 * node) bytes) .c)
       → i ≡ takenNode bytes node (not (holds z))
-  turned i e =
-      read-field (h .entered .known) (λ n. choose (holds (toZ w64 (ofZ w64 (pos 1 -ℤ read)))) (n .b) (n .c)) e
+  turned e =
+      read-field (h .entered .known) (λ n. choose (holds (kept (pos 1 -ℤ read))) (n .b) (n .c)) e
       ∙ ap (takenNode bytes node) (ap holds (word-back (pos 1 -ℤ read) (turned-small read either)) ∙ turned-holds read either ∙ ap (λ (x : ℤ). not (holds x)) read-is)
 
   -- the head's words lie inside both records
-  pub flip-room : (w : ℕ) → w ≡ length vs → (s .at + 1 + 2 * w + size ≤ farthest) × (s .from + 1 + 2 * w + size ≤ length old)
-  flip-room w wide =
+  pub flip-room : {w : ℕ} → w ≡ length vs → (s .at + 1 + 2 * w + size ≤ farthest) × (s .from + 1 + 2 * w + size ≤ length old)
+  flip-room wide =
       let inside = h .entered .sound .inside .ends in
       (omega (arith, wide, h .entered .sound .place, inside, fork-inside h), omega (arith, wide, inside, fork-inside h))
 
@@ -157,17 +157,14 @@ module _ {bytes : List ℕ} {base : ℕ} {lists : List ℕ} {node size : ℕ} {o
         ∙ ap₂ {C = Paper.Outcome Walked} (λ (left : ℕ) (store : List ℤ). choose (holds z) (run (h .b)) (run (h .a)) left store >>= λ d. accepted (flippedAs d))
         (forked-at h .left-is) (sym (store-is begun))
         ∙ ap (λ (body : ℕ → List ℤ → Paper.Outcome Done). body (s .left) values >>= λ d. accepted (flippedAs d))
-        (sym (ap run (tree-is (sym (other .here) ∙ branch-here h (not (holds z)))) ∙ run-other (holds z) (h .a) (h .b)))
-      where
-        tree-is : {t u : Statement} → some (statement t) ≡ some (statement u) → t ≡ u
-        tree-is p = cc
+        (sym (ap run (same-tree (other .here) (branch-here h (not (holds z)))) ∙ run-other (holds z) (h .a) (h .b)))
 
-    pub flip-runnable : (i at′ : ℕ) → i ≡ takenNode bytes node (not (holds z)) → at′ ≡ s .at + 1 + 2 * length vs + size → Runnable bytes base lists i values (s .left) at′
-    flip-runnable i at′ e place =
+    pub flip-runnable : {i at′ : ℕ} → i ≡ takenNode bytes node (not (holds z)) → at′ ≡ s .at + 1 + 2 * length vs + size → Runnable bytes base lists i values (s .left) at′
+    flip-runnable {i} {at′} e place =
         let near : at′ + weight * s .left ≤ farthest = omega (arith, place, h .entered .sound .place, h .entered .sound .inside .ends, fork-inside h) in
         subst (λ (j : ℕ). Runnable bytes base lists j values (s .left) at′) (sym e) (record { known = store-known begun other; near = near })
 
-    module _ (i : ℕ) (at-i : i ≡ takenNode bytes node (not (holds z))) (ran : Ran) (out one : List ℤ) (at′ : ℕ) (p : RunsTo bytes i values (s .left) ran out at′ one) where
+    module _ {i : ℕ} (at-i : i ≡ takenNode bytes node (not (holds z))) (ran : Ran) (out one : List ℤ) (at′ : ℕ) (p : RunsTo bytes i values (s .left) ran out at′ one) where
       ran-as : RanAs runs ran out (s .left) at′ one
       ran-as = p (other .tree) (ap (partAt bytes) at-i ∙ other .here)
 
@@ -193,14 +190,14 @@ module _ {bytes : List ℕ} {base : ℕ} {lists : List ℕ} {node size : ℕ} {o
         good = subst (Good types) (sym (got .ended .stores))
             (still-fine (store-known begun other) (s .left) (got .done) (got .comes) .good)
 
-        pub flip-settles : (w : ℕ) → w ≡ length vs → Freshened bytes lists node old (s .from + 1 + w) ran s
-        flip-settles w wide = subst (λ (n : ℕ). Freshened bytes lists node old (s .from + 1 + n) ran s) (sym wide)
+        pub flip-settles : {w : ℕ} → w ≡ length vs → Freshened bytes lists node old (s .from + 1 + w) ran s
+        flip-settles wide = subst (λ (n : ℕ). Freshened bytes lists node old (s .from + 1 + n) ran s) (sym wide)
             (record { standing = forked-at h .second; near = good-near types (ran .store .values) good })
 
-        pub flip-answer : (w : ℕ) → w ≡ length vs → at′ ≡ s .at + 1 + 2 * w + size → (change : ℤ) (two final : List ℤ) → two ≡ lay one (s .at + 1 + w) (snapshot vs (ran .store .values))
+        pub flip-answer : {w : ℕ} → w ≡ length vs → at′ ≡ s .at + 1 + 2 * w + size → (change : ℤ) (two final : List ℤ) → two ≡ lay one (s .at + 1 + w) (snapshot vs (ran .store .values))
             → (x : ℤ) → x ≡ plus Ty.truth z change → final ≡ set two (s .at) x → (r : Reached) → FreshAs bytes lists node old (s .from + 1 + w) end ran s r
             → FlipsTo bytes node change old end s r out final
-        flip-answer w wide place change two final snapped x is-x last r fresh = each change r final λ out₀ laid told.
+        flip-answer {w} wide place change two final snapped x is-x last r fresh = each change r final λ out₀ laid told.
             let f = h .fork in
             let d = got .done in
             let after = snapshot vs (d .store) in
@@ -230,7 +227,7 @@ module _ {bytes : List ℕ} {base : ℕ} {lists : List ℕ} {node size : ℕ} {o
               bounded (store-known begun other) (s .left) d (got .comes),
             ) in
             let came : Came (settledAs bytes lists node old (s .from + 1 + w) s (ran .store .values) (d .steps) words) s r old end out₀ final
-            = fresh-came (h .entered .sound) (flip-settles w wide .standing) fresh good (d .steps) words (got .ended .leaves) ends short lays in
+            = fresh-came (h .entered .sound) (flip-settles wide .standing) fresh good (d .steps) words (got .ended .leaves) ends short lays in
             subst (λ (m : Paper.Outcome Done). WalkAs (m >>= λ g. accepted (flippedAs g)) s r old end out₀ final) (sym (got .comes))
             (subst (λ (cs : List ℤ). Came (whole (record { changes = put vs cs (s .changes .values); counts = allFresh (d .steps); words = words })) s r old end out₀ final)
             (ap₂ {C = List ℤ} (λ (store : List ℤ) (n : ℕ). minusAll types vs (snapshot vs store) (olds old (s .from + 1 + n) vs)) (got .ended .stores) wide) came)

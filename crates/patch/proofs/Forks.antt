@@ -12,7 +12,7 @@ use lib.IntN.{ℤ}
 use Rattle.numbers.specs.Lay.{lay}
 use Rattle.rules.specs.Outcome.{accepted, refused, _>>=_, broken}
 use Rattle.rules.specs.Outcome as Paper
-use Rattle.rules.specs.Value.{Ty, zeros, mostVariables}
+use Rattle.rules.specs.Value.{Ty}
 use Rattle.rules.specs.Tree.{Statement, mentions}
 use Rattle.rules.specs.Table.{typesOf, tyOf, expression}
 use Rattle.rules.specs.Patch as Rules

@@ -14,11 +14,10 @@ use Rattle.rules.specs.Tree.{Statement, mentions}
 use Rattle.rules.specs.Table.{typesOf, statement}
 use Rattle.rules.specs.Run.{Done, iterate, run}
 use Rattle.rules.specs.Patch.{Visited, Walked, Turn, allFresh, finished, grown, loop, visit, walk}
-use Rattle.rules.specs.Laws.Outcome.{Holds, holds-of}
 use Rattle.rules.specs.Laws.Parts.{part-typed}
 use Rattle.rules.specs.Laws.Size.{weight, bounded-iterate, words-bounded}
 use Rattle.rules.specs.Laws.Store.{Good}
-use Rattle.rules.specs.Laws.Typed.{Kept, keeps-iterate, run-keeps}
+use Rattle.rules.specs.Laws.Typed.{keeps-iterate, run-keeps}
 use Rattle.table.specs.Lists.{listAt}
 use Rattle.table.specs.declared.answer.Refusal.{Refusal}
 use Rattle.table.specs.declared.answer.Outcome.the-variants.{Accepted, Refused}
@@ -37,6 +36,7 @@ use Rattle.patch.specs.declared.entry.Reached.{Reached}
 use Rattle.patch.proofs.Nodes.{for-tree, list-is, named-of}
 use Rattle.patch.proofs.Turns.{list-long}
 use Rattle.patch.proofs.Fresh.{from-last, store-fine, store-known, store-is, settledAs, fresh-came}
+use Rattle.patch.specs.Laws.Head.{holds-at}
 
 -- so many more iterations run fresh, where none is left of the old
 pub loop-more : (types : List Ty) (body : ℕ → List ℤ → List ℤ → Paper.Outcome Visited) (fresh : ℕ → List ℤ → Paper.Outcome Done) (vs : List ℕ) (t : Turn) (n : ℕ) → 0 < n
@@ -124,10 +124,9 @@ module _ {bytes : List ℕ} {base : ℕ} {lists : List ℕ} {node body last : �
 
         good : Good types (ran .store .values)
         good = subst (Good types) (sym (got .ended .stores))
-            (holds-of (subst (Holds (λ f. Kept types (mentions b) values (f .store))) (got .comes)
-            (keeps-iterate types (mentions b) (run b) vs
+            (holds-at (got .comes) (keeps-iterate types (mentions b) (run b) vs
             (run-keeps types (mentions b) b (part-typed bytes (bodied .program) (bodied .checked) body (statement b) (bodied .here)) (λ v m. m))
-            more (s .left) values (store-fine (from-last (h .lastly) is) .good))) .good)
+            more (s .left) values (store-fine (from-last (h .lastly) is) .good)) .good)
 
         pub grown-near : AllNear (ran .store .values)
         grown-near = good-near types (ran .store .values) good
@@ -136,7 +135,7 @@ module _ {bytes : List ℕ} {base : ℕ} {lists : List ℕ} {node body last : �
         short =
             let row = named-of k .row in
             let few : length vs ≤ 32 = omega (arith, row .few, list-long row) in
-            holds-of (subst (Holds (λ f. length (f .words) ≤ weight * f .steps)) (got .comes) (bounded-iterate (run b) vs few (words-bounded b (bodied .small)) more (s .left) values))
+            holds-at (got .comes) (bounded-iterate (run b) vs few (words-bounded b (bodied .small)) more (s .left) values)
 
         pub grown-answer : 0 < more → (r : Reached) → FreshAs bytes lists node old last (s .from) ran s r → EndsTo bytes lists node body 0 more last old (s .from) s r out after
         grown-answer some r fresh = each some r λ was new l.

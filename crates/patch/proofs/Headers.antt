@@ -10,7 +10,7 @@ use lib.Dec.{T, leb}
 use lib.IntN.{ℤ, pos, negsuc, natAbs}
 use lib.Signed.{leZ, nonNeg}
 use mir.Syntax.{w64}
-use mir.Val.{Fits, SFits, toZ, ofZ}
+use mir.Val.{Fits, SFits}
 use mir.ValLaws.{toZ-ofZ}
 use borrow.Author.Tests.{le-leb, lt-leb, leb-true}
 use Rattle.numbers.specs.Signed.{between}
@@ -24,6 +24,7 @@ use Rattle.rules.specs.Laws.Outcome.{Holds, value, holds-need}
 use Rattle.rules.specs.Laws.Header.{Sized}
 use Rattle.patch.specs.Call.{HeadedAs}
 use Rattle.patch.proofs.Inputs.{many}
+use Rattle.patch.proofs.Changes.{kept}
 
 pub between-as : {low high z low′ high′ z′ : ℤ} → low ≡ low′ → high ≡ high′ → z ≡ z′ → between low high z ≡ between low′ high′ z′
 between-as {z = z} {low′ = low′} {high′ = high′} e f g = ap₂ {C = Bool} (λ (a b : ℤ). between a b z) e f ∙ ap (between low′ high′) g
@@ -53,7 +54,7 @@ turned h true true true true true false g = (refl, refl)
 turned h true true true true true true false = (refl, refl)
 turned h true true true true true true true = refl
 
-module _ (bytes : List ℕ) (z : Sized bytes) (old : List ℤ) where
+module _ {bytes : List ℕ} (z : Sized bytes) (old : List ℤ) where
   -- the tests by the count of variables
   abbrev read : ℕ → Bool
   read n = leb (3 + 2 * n) (length old)
@@ -78,21 +79,21 @@ module _ (bytes : List ℕ) (z : Sized bytes) (old : List ℤ) where
   unfolding lengthOf limitOf stepsIn
   header-by a b d e f g ia ib id ie if′ ig =
       subst (HeadedAs (header (typesOf bytes) old))
-      (ap read (many bytes z)
+      (ap read (many z)
       ∙ sym (ap₂ {C = Bool} (λ (x y : Bool). x && y) ia (ap₂ {C = Bool} (λ (x y : Bool). x && y) ib (ap₂ {C = Bool} (λ (x y : Bool). x && y) id (ap₂ {C = Bool} (λ (x y : Bool). x && y) ie (ap₂ {C = Bool} (λ (x y : Bool). x && y) if′ ig))))))
       header-read
 
   -- the parts of the old record that the code reads, by the count that it has read
-  module _ (v : ℕ) (is : v ≡ variables bytes) where
+  module _ {v : ℕ} (is : v ≡ variables bytes) where
     pub inputs-are : take (3 + v - 3) (drop 3 old) ≡ inputsOf (typesOf bytes) old
     unfolding inputsOf
-    inputs-are = let same : 3 + v - 3 ≡ length (typesOf bytes) = omega (arith, many bytes z) in ap (λ (n : ℕ). take n (drop 3 old)) same
+    inputs-are = let same : 3 + v - 3 ≡ length (typesOf bytes) = omega (arith, many z) in ap (λ (n : ℕ). take n (drop 3 old)) same
 
     pub outputs-are : take (3 + 2 * v - (3 + v)) (drop (3 + v) old) ≡ outputsOf (typesOf bytes) old
     unfolding outputsOf
     outputs-are =
-        let same : 3 + 2 * v - (3 + v) ≡ length (typesOf bytes) = omega (arith, many bytes z) in
-        let place : 3 + v ≡ 3 + length (typesOf bytes) = omega (arith, many bytes z) in
+        let same : 3 + 2 * v - (3 + v) ≡ length (typesOf bytes) = omega (arith, many z) in
+        let place : 3 + v ≡ 3 + length (typesOf bytes) = omega (arith, many z) in
         ap₂ {C = List ℤ} (λ (n m : ℕ). take n (drop m old)) same place
 
     -- a slice that is too short, and one that is not
@@ -143,9 +144,9 @@ header-whole types old =
     })
 
 -- such a length is a count of the code
-pub size-cast : (z : ℤ) (n : ℕ) → SFits w64 z → z ≡ pos (natAbs z) → natAbs z ≤ n → n < 9_223_372_036_854_775_808 → T (nonNeg (toZ w64 (ofZ w64 z))) × Fits w64 (natAbs (toZ w64 (ofZ w64 z)))
+pub size-cast : (z : ℤ) (n : ℕ) → SFits w64 z → z ≡ pos (natAbs z) → natAbs z ≤ n → n < 9_223_372_036_854_775_808 → T (nonNeg (kept z)) × Fits w64 (natAbs (kept z))
 size-cast z n f is le small =
-    let back : toZ w64 (ofZ w64 z) ≡ z = toZ-ofZ w64 z f in
+    let back : kept z ≡ z = toZ-ofZ w64 z f in
     let up : T (nonNeg z) = subst (λ (y : ℤ). T (nonNeg y)) (sym is) tt in
     let fits : Fits w64 (natAbs z) = record { fits = omega arith } in
     (subst (λ (y : ℤ). T (nonNeg y)) (sym back) up, subst (λ (y : ℤ). Fits w64 (natAbs y)) (sym back) fits)

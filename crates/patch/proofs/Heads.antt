@@ -7,22 +7,21 @@ use native.Mathlib.Omega.{arith}
 use mathlib.Core.Bool.{Bool, true, false, true≢false}
 use mathlib.Core.Option.{some}
 use mathlib.Core.List.{List}
-use lib.ListN.{length, drop}
+use lib.ListN.{length}
 use lib.IntN.{ℤ}
 use Rattle.numbers.specs.Lay.{lay}
 use Rattle.rules.specs.Outcome.{accepted, refused, _>>=_, broken}
 use Rattle.rules.specs.Outcome as Paper
-use Rattle.rules.specs.Value.{Ty, inType, at, zeros, mostVariables}
+use Rattle.rules.specs.Value.{Ty, inType, at}
 use Rattle.rules.specs.Tree.{Expression}
-use Rattle.rules.specs.Table.{Node, readNode, tyOf, typesOf, expression}
+use Rattle.rules.specs.Table.{tyOf, typesOf, expression}
 use Rattle.rules.specs.Patch.{read, readIn}
-use Rattle.rules.specs.Laws.Parts.{nodeAt, partAt}
+use Rattle.rules.specs.Laws.Parts.{partAt}
 use Rattle.rules.specs.Laws.Size.{operations, fewOperators}
-use Rattle.table.specs.Lists.{listAt, Row}
+use Rattle.table.specs.Lists.{listAt}
 use Rattle.table.specs.Paper.{refusalFor}
 use Rattle.table.specs.declared.answer.Outcome.the-variants.{Refused}
 use Rattle.run.specs.Code.{farthest}
-use Rattle.run.specs.Laws.Statements.{read-field}
 use Rattle.patch.specs.Old.{part}
 use Rattle.patch.specs.Snapshot.{Named, Patched, PatchedAs, patched}
 use Rattle.patch.specs.Expression.{Shiftable}
@@ -72,10 +71,6 @@ module _ {bytes : List ℕ} {base : ℕ} {lists : List ℕ} {node : ℕ} {old : 
 
   abbrev types : List Ty
   types = typesOf bytes
-
-  -- what is read of the node at its place
-  pub field-is : {A : Type 0} (f : Node → A) {r : A} → r ≡ f (readNode (drop (base + 8 * node) bytes)) → r ≡ f (nodeAt bytes node)
-  field-is = read-field k
 
   pub head-asked : Headable bytes lists node old (s .from) end (s .changes .values) (s .at)
   head-asked =
@@ -133,15 +128,6 @@ module _ {bytes : List ℕ} {base : ℕ} {lists : List ℕ} {node : ℕ} {old : 
       }
 
 -- ---- the snapshot after an iteration
-
--- a named node's list is of variables that every table may have
-pub named-row : {bytes lists : List ℕ} {node : ℕ} → Named bytes lists node → Row 32 lists node
-named-row n = record {
-  long = n .row .long;
-  inside = n .row .inside;
-  few = n .row .few;
-  low = λ i below. omega (arith, n .row .low i below, n .few);
-}
 
 module _ {bytes lists : List ℕ} {node : ℕ} {old : List ℤ} {end : ℕ} {s : Reached} (n : Named bytes lists node) (h : Sound old end s) (out after : List ℤ) (r : Reached) {fits : Bool}
     (p : PatchedAs (patched (typesOf bytes) (listAt lists node) (s .changes .values) (part old (s .from) end)) fits out (s .at) after) where

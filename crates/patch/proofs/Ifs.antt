@@ -13,7 +13,7 @@ use Rattle.numbers.specs.Signed.{eqZ}
 use Rattle.numbers.specs.Laws.{eqZ-true, eqZ-refl, decide}
 use Rattle.rules.specs.Outcome.{accepted, refused, _>>=_, choose}
 use Rattle.rules.specs.Outcome as Paper
-use Rattle.rules.specs.Value.{Ty, zeros, mostVariables}
+use Rattle.rules.specs.Value.{Ty}
 use Rattle.rules.specs.Tree.{Statement, mentions}
 use Rattle.rules.specs.Table.{typesOf, statement}
 use Rattle.rules.specs.Run.{holds, run}
@@ -32,7 +32,7 @@ use Rattle.patch.specs.declared.expression.Shifted.the-variants.{Is, Ref
 use Rattle.patch.proofs.Nodes.{for-tree}
 use Rattle.patch.specs.Change.{Near}
 use Rattle.patch.proofs.Branches.{forked-at}
-use Rattle.patch.proofs.Kinded.{is-refused, is-of, refused-of}
+use Rattle.patch.proofs.Shifts.{is-refused, is-of, refused-of}
 
 module _ {bytes : List ℕ} {base : ℕ} {lists : List ℕ} {node : ℕ} {old : List ℤ} {end : ℕ} {s : Reached} (h : Enterable bytes base lists node old end s 19) where
   abbrev types : List Ty
@@ -114,9 +114,9 @@ module _ {bytes : List ℕ} {base : ℕ} {lists : List ℕ} {node : ℕ} {old : 
       branch-kept none r after g = by true (ap (λ (z : ℤ). eqZ z (pos 0)) (sym (told .changes) ∙ none) ∙ eqZ-refl (pos 0)) r after
           (g node (its .e) (its .s) (its .t) own-here (told .fork) (told .comes) out (told .laid))
 
-      pub branch-flipped : (change ≡ pos 0 → ⊥) → (r : Reached) (after : List ℤ) → FlipsTo bytes node change old end s r one after → WalksTo bytes node old end s r out after
-      branch-flipped other-than r after g = by false (other (told .fork .test .change) (λ e. other-than (told .changes ∙ e))) r after
-          (g node (its .e) (its .s) (its .t) own-here (told .fork) (told .comes) (told .changes) out (told .laid))
+      pub branch-flipped : (change ≡ pos 0 → ⊥) → {z : ℤ} → z ≡ change → (r : Reached) (after : List ℤ) → FlipsTo bytes node z old end s r one after → WalksTo bytes node old end s r out after
+      branch-flipped other-than e r after g = by false (other (told .fork .test .change) (λ n. other-than (told .changes ∙ n))) r after
+          (g node (its .e) (its .s) (its .t) own-here (told .fork) (told .comes) (e ∙ told .changes) out (told .laid))
         where
           other : (z : ℤ) → (z ≡ pos 0 → ⊥) → eqZ z (pos 0) ≡ false
           other z n = ⊎-elim (λ e. absurd (n (eqZ-true z (pos 0) e))) (λ e. e) (decide (eqZ z (pos 0)))

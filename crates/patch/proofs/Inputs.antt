@@ -11,8 +11,7 @@ use lib.Dec.{leb}
 use lib.IntN.{ℤ, pos, negsuc, _+ℤ_, _-ℤ_}
 use lib.Signed.{mag}
 use mir.Syntax.{w64}
-use mir.Val.{SFits, toZ, ofZ}
-use mir.ValLaws.{toZ-ofZ}
+use mir.Val.{SFits}
 use borrow.Author.Tests.{le-leb, leb-true}
 use Rattle.numbers.specs.Signed.{eqZ, between}
 use Rattle.numbers.specs.Laws.{and-left, and-right, and-both, sub-back}
@@ -29,9 +28,6 @@ use Rattle.patch.specs.Change.{Near, AllNear}
 use Rattle.patch.specs.Call.{legalChange, Sums}
 
 -- ---- values and changes are near
-
-pub near-back : (z : ℤ) → Near z → Near (toZ w64 (ofZ w64 z))
-near-back z h = let is : mag (toZ w64 (ofZ w64 z)) ≡ mag z = ap mag (toZ-ofZ w64 z (word z (omega (arith, h)))) in omega (arith, is, h)
 
 -- a value of a type is near
 value-near : (t : Ty) (z : ℤ) → inType t z ≡ true → Near z
@@ -150,20 +146,20 @@ legal-near (t ∷ ts) (z ∷ zs) (c ∷ cs) f h zero = change-in t z c (and-left
 legal-near (t ∷ ts) (z ∷ zs) (c ∷ cs) f h (suc v) = legal-near ts zs cs (and-right (inType t z) (fit ts zs) f) (and-right (legalChange t z c) (legal ts zs cs) h) v
 
 -- the table's types are there
-pub types-inside : (bytes : List ℕ) → Sized bytes → nodesAt bytes ≤ length bytes
+pub types-inside : {bytes : List ℕ} → Sized bytes → nodesAt bytes ≤ length bytes
 unfolding nodesAt headerLength
-types-inside bytes z = omega (arith, z .whole)
+types-inside z = omega (arith, z .whole)
 
-module _ (bytes : List ℕ) (z : Sized bytes) where
+module _ {bytes : List ℕ} (z : Sized bytes) where
   pub many : length (typesOf bytes) ≡ variables bytes
-  many = types-long bytes (types-inside bytes z)
+  many = types-long bytes (types-inside z)
 
   module _ (inputs : List ℤ) (fits : fit (typesOf bytes) inputs ≡ true) where
     pub inputs-long : length inputs ≡ variables bytes
     inputs-long = fit-long (typesOf bytes) inputs fits ∙ many
 
     pub input-in : (k : ℕ) → k < variables bytes → inType (typeBy bytes k) (at inputs k) ≡ true
-    input-in k below = ap (λ (t : Ty). inType t (at inputs k)) (sym (type-at bytes (types-inside bytes z) k below)) ∙ fit-good (typesOf bytes) inputs fits k
+    input-in k below = ap (λ (t : Ty). inType t (at inputs k)) (sym (type-at bytes (types-inside z) k below)) ∙ fit-good (typesOf bytes) inputs fits k
 
     module _ (changes : List ℤ) where
       -- another count of changes
@@ -174,14 +170,14 @@ module _ (bytes : List ℕ) (z : Sized bytes) where
       pub legal-not : (k : ℕ) → k < variables bytes → legalChange (typeBy bytes k) (at inputs k) (at changes k) ≡ false → false ≡ legal (typesOf bytes) inputs changes
       legal-not k below wrong =
           refuted (legal (typesOf bytes) inputs changes) λ e.
-          true≢false (sym (legal-at (typesOf bytes) inputs changes e k (omega (arith, many))) ∙ ap (λ (t : Ty). legalChange t (at inputs k) (at changes k)) (type-at bytes (types-inside bytes z) k below) ∙ wrong)
+          true≢false (sym (legal-at (typesOf bytes) inputs changes e k (omega (arith, many))) ∙ ap (λ (t : Ty). legalChange t (at inputs k) (at changes k)) (type-at bytes (types-inside z) k below) ∙ wrong)
 
       -- every input may take its change
       pub legal-all : length changes ≡ variables bytes → ((k : ℕ) → k < variables bytes → legalChange (typeBy bytes k) (at inputs k) (at changes k) ≡ true) → true ≡ legal (typesOf bytes) inputs changes
       legal-all each right =
           sym (legal-each (typesOf bytes) inputs changes (fit-long (typesOf bytes) inputs fits) (each ∙ sym many) λ k below.
           let less : k < variables bytes = omega (arith, many) in
-          ap (λ (t : Ty). legalChange t (at inputs k) (at changes k)) (type-at bytes (types-inside bytes z) k less) ∙ right k less)
+          ap (λ (t : Ty). legalChange t (at inputs k) (at changes k)) (type-at bytes (types-inside z) k less) ∙ right k less)
 
 -- ---- values with their changes
 
@@ -202,23 +198,23 @@ sums-at (t ∷ ts) (z ∷ zs) (c ∷ cs) e le zero below = refl
 sums-at (t ∷ ts) (z ∷ zs) (c ∷ cs) e le (suc k) below = sums-at ts zs cs (omega (arith, e)) (omega (arith, le)) k (omega (arith, below))
 
 -- one for each variable
-pub sums-length : (bytes : List ℕ) → Sized bytes → (words changes : List ℤ) → fit (typesOf bytes) words ≡ true → variables bytes ≤ length changes → length (plusAll (typesOf bytes) words changes) ≡ variables bytes
-sums-length bytes z words changes fits enough = sums-long (typesOf bytes) words changes (fit-long (typesOf bytes) words fits) (omega (arith, many bytes z)) ∙ many bytes z
+pub sums-length : {bytes : List ℕ} → Sized bytes → (words changes : List ℤ) → fit (typesOf bytes) words ≡ true → variables bytes ≤ length changes → length (plusAll (typesOf bytes) words changes) ≡ variables bytes
+sums-length {bytes} z words changes fits enough = sums-long (typesOf bytes) words changes (fit-long (typesOf bytes) words fits) (omega (arith, many z)) ∙ many z
 
-module _ (bytes : List ℕ) (words changes : List ℤ) (s : Sums bytes words changes) where
+module _ {bytes : List ℕ} {words changes : List ℤ} (s : Sums bytes words changes) where
   few : variables bytes ≤ 32
   few = s .sized .few
 
   enough : length (typesOf bytes) ≤ length changes
-  enough = omega (arith, many bytes (s .sized), few, s .long)
+  enough = omega (arith, many (s .sized), few, s .long)
 
   pub all-long : length (plusAll (typesOf bytes) words changes) ≡ variables bytes
-  all-long = sums-length bytes (s .sized) words changes (s .fits) (omega (arith, few, s .long))
+  all-long = sums-length (s .sized) words changes (s .fits) (omega (arith, few, s .long))
 
   pub near-both : (k : ℕ) → Near (at words k) × Near (at changes k)
   near-both k = (value-near (typeOf (typesOf bytes) k) (at words k) (fit-good (typesOf bytes) words (s .fits) k), s .near k)
 
   pub sum-at : (k : ℕ) → k < variables bytes → plus (typeBy bytes k) (at words k) (at changes k) ≡ at (plusAll (typesOf bytes) words changes) k
   sum-at k below =
-      ap (λ (t : Ty). plus t (at words k) (at changes k)) (sym (type-at bytes (types-inside bytes (s .sized)) k below))
-      ∙ sym (sums-at (typesOf bytes) words changes (fit-long (typesOf bytes) words (s .fits)) enough k (omega (arith, many bytes (s .sized))))
+      ap (λ (t : Ty). plus t (at words k) (at changes k)) (sym (type-at bytes (types-inside (s .sized)) k below))
+      ∙ sym (sums-at (typesOf bytes) words changes (fit-long (typesOf bytes) words (s .fits)) enough k (omega (arith, many (s .sized))))

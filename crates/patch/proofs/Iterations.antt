@@ -25,8 +25,9 @@ use Rattle.patch.specs.Entry.{Sound}
 use Rattle.patch.specs.Statement.{Turned, turnOf, turnsOf, turnAt, behind, LastAt, Turnable, TurnCame, lastOf, TurnAs, TurnTo, TurnsTo}
 use Rattle.patch.specs.Laws.Turns.{both-assoc}
 use Rattle.patch.specs.declared.entry.Reached.{Reached}
-use Rattle.patch.proofs.Walks.{accepted-refused, came-then}
+use Rattle.patch.proofs.Walks.{came-then}
 use Rattle.patch.proofs.Nodes.{for-tree}
+use Rattle.run.specs.Laws.Statements.{accepted-refused}
 
 -- ---- some iterations, and those that are left
 

@@ -1,23 +1,19 @@
--- Which kind a walked entry is, and what the answer of a head tells.
+-- Which kind a walked entry is: one that a skip never is.
 -- Assumes nothing.
 use mathlib.Core.Path.{_≡_, refl, sym, ap, _∙_}
 use Prim.Native.Nat.{ℕ, _-_}
 use native.Mathlib.Omega.{arith}
-use mathlib.Core.Bool.{true, false}
+use mathlib.Core.Bool.{true, false, true≢false}
 use mathlib.Core.List.{List}
 use lib.IntN.{ℤ}
-use Rattle.rules.specs.Value.{zeros, mostVariables, unchanged}
+use Rattle.rules.specs.Value.{unchanged}
 use Rattle.rules.specs.Tree.{Statement, mentions}
 use Rattle.rules.specs.Table.{Kind}
 use Rattle.rules.specs.Laws.Parts.{nodeAt, statement-of}
-use Rattle.table.specs.declared.answer.Refusal.{Refusal}
 use Rattle.run.specs.Laws.Statements as Run
 use Rattle.run.specs.Laws.Compound.{last-kind}
 use Rattle.patch.specs.Statement.{Inner, Enterable}
 use Rattle.patch.specs.declared.entry.Reached.{Reached}
-use Rattle.patch.specs.declared.expression.Shifted.the-variants.{Is, Refused}
-
--- ---- which kind
 
 module _ {bytes : List ℕ} {base : ℕ} {lists : List ℕ} {node : ℕ} {old : List ℤ} {end : ℕ} {s : Reached} (h : Inner bytes base lists node old end s) where
   pub enter : {kind : ℕ} → nodeAt bytes node .kind ≡ kind → Enterable bytes base lists node old end s kind
@@ -26,21 +22,7 @@ module _ {bytes : List ℕ} {base : ℕ} {lists : List ℕ} {node : ℕ} {old : 
   -- a skip mentions nothing, so it is never walked
   no-skip : nodeAt bytes node .kind ≡ 16 → ⊥
   unfolding mentions unchanged
-  no-skip e = differ (sym (ap (λ (t : Statement). unchanged (mentions t) (s .changes .values)) (statement-of (Run.built (h .known) Kind.skip e))) ∙ h .changed)
-    where
-      differ : true ≡ false → ⊥
-      differ p = let z : _≡_ {A = ℕ} 0 1 = cc in omega arith
+  no-skip e = true≢false (sym (ap (λ (t : Statement). unchanged (mentions t) (s .changes .values)) (statement-of (Run.built (h .known) Kind.skip e))) ∙ h .changed)
 
   pub last-is-repeat : (nodeAt bytes node .kind ≡ 17 → ⊥) → (nodeAt bytes node .kind ≡ 18 → ⊥) → (nodeAt bytes node .kind ≡ 19 → ⊥) → nodeAt bytes node .kind ≡ 20
   last-is-repeat = last-kind (h .known) (sym (Run.read-field (h .known) (λ n. n .kind) refl)) no-skip
-
--- ---- what a head's answer tells
-
-pub is-refused : {x : ℤ} {i : ℕ} {q : Refusal} → Is x i ≡ Refused q → ⊥
-is-refused e = let z : _≡_ {A = ℕ} 0 1 = cc in omega arith
-
-pub is-of : {x y : ℤ} {i j : ℕ} → Is x i ≡ Is y j → (x ≡ y) × (i ≡ j)
-is-of e = (cc, cc)
-
-pub refused-of : {p q : Refusal} → Refused p ≡ Refused q → p ≡ q
-refused-of e = cc

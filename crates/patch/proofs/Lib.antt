@@ -3,6 +3,7 @@ pub mod Branches
 pub mod Changes
 pub mod Completing
 pub mod Copying
+pub mod Counted
 pub mod Counts
 pub mod Endings
 pub mod Finishing

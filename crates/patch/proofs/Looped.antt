@@ -9,7 +9,7 @@ use lib.ListN.{length}
 use lib.IntN.{ℤ}
 use Rattle.rules.specs.Outcome.{accepted, refused, _>>=_}
 use Rattle.rules.specs.Outcome as Paper
-use Rattle.rules.specs.Value.{Ty, zeros, mostVariables}
+use Rattle.rules.specs.Value.{Ty}
 use Rattle.rules.specs.Tree.{Statement, mentions}
 use Rattle.rules.specs.Table.{typesOf, statement}
 use Rattle.rules.specs.Patch.{Walked, walk}
@@ -25,7 +25,7 @@ use Rattle.patch.specs.declared.entry.Reached.{Reached}
 use Rattle.patch.specs.declared.expression.Shifted.{Shifted}
 use Rattle.patch.specs.declared.expression.Shifted.the-variants.{Is, Refused}
 use Rattle.patch.proofs.Nodes.{for-tree, as-run}
-use Rattle.patch.proofs.Kinded.{is-refused, is-of, refused-of}
+use Rattle.patch.proofs.Shifts.{is-refused, is-of, refused-of}
 
 module _ {bytes : List ℕ} {base : ℕ} {lists : List ℕ} {node : ℕ} {old : List ℤ} {end : ℕ} {s : Reached} (h : Enterable bytes base lists node old end s 20) where
   abbrev types : List Ty
@@ -79,19 +79,20 @@ module _ {bytes : List ℕ} {base : ℕ} {lists : List ℕ} {node : ℕ} {old : 
       numbered : Numbered
       numbered = numbered-by counts refl answered
 
-      pub looped-counted : Counted bytes base lists node new size old end s
-      looped-counted = record {
+      -- the new count may be passed as a word that says the same
+      pub looped-counted : {z : ℤ} → z ≡ new → Counted bytes base lists node z size old end s
+      looped-counted e = record {
         entered = h;
         e = its .e;
         b = its .s;
         here = own-here;
         count = numbered .count;
         counts = numbered .comes;
-        is = numbered .news;
+        is = e ∙ numbered .news;
         size = numbered .sizes;
       }
 
-      pub looped-answer : (r : Reached) (after : List ℤ) → IteratesTo bytes node new old end s r one after → WalksTo bytes node old end s r out after
-      looped-answer r after g = each-repeat r out after (subst (λ (m : Paper.Outcome Walked). WalkAs m s r old end out after)
+      pub looped-answer : {z : ℤ} → z ≡ new → (r : Reached) (after : List ℤ) → IteratesTo bytes node z old end s r one after → WalksTo bytes node old end s r out after
+      looped-answer e r after g = each-repeat r out after (subst (λ (m : Paper.Outcome Walked). WalkAs m s r old end out after)
           (sym (ap (λ (m : Paper.Outcome Count). m >>= going) (numbered .comes)))
-          (g node (its .e) (its .s) own-here (numbered .count) (numbered .comes) (numbered .news) out (numbered .laid)))
+          (g node (its .e) (its .s) own-here (numbered .count) (numbered .comes) (e ∙ numbered .news) out (numbered .laid)))

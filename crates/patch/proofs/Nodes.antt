@@ -3,12 +3,12 @@
 use mathlib.Core.Path.{_≡_, sym, _∙_}
 use Prim.Native.Nat.{ℕ, _+_, _*_, _≤_}
 use native.Mathlib.Omega.{arith}
-use mathlib.Core.Option.{some}
+use mathlib.Core.Option.{some, Option}
 use mathlib.Core.List.{List}
 use lib.ListN.{length, drop}
 use Rattle.rules.specs.Value.{zeros, mostVariables}
 use Rattle.rules.specs.Tree.{Statement, nodeOf, mentions}
-use Rattle.rules.specs.Table.{Node as Bytes, readNode, nodesAt, typesOf, statement}
+use Rattle.rules.specs.Table.{Node as Bytes, readNode, nodesAt, typesOf, statement, Part}
 use Rattle.rules.specs.Laws.Parts.{nodeAt, partAt}
 use Rattle.rules.specs.Laws.Size.{weight, Small}
 use Rattle.table.specs.Lists.{listAt, Row}
@@ -18,6 +18,19 @@ use Rattle.run.specs.Laws.Statements as Run
 use Rattle.run.specs.Laws.Compound.{named}
 use Rattle.patch.specs.Snapshot.{Named}
 use Rattle.patch.specs.Statement.{Node}
+
+-- two trees of one node are one
+pub same-tree : {o : Option Part} {t u : Statement} → o ≡ some (statement t) → o ≡ some (statement u) → t ≡ u
+same-tree e f = cc
+
+-- a named node's list is of variables that every table may have
+pub named-row : {bytes lists : List ℕ} {node : ℕ} → Named bytes lists node → Row 32 lists node
+named-row n = record {
+  long = n .row .long;
+  inside = n .row .inside;
+  few = n .row .few;
+  low = λ i below. omega (arith, n .row .low i below, n .few);
+}
 
 module _ {bytes : List ℕ} {base : ℕ} {lists : List ℕ} {node : ℕ} (k : Node bytes base lists node) where
   pub for-tree : (P : Statement → Type 0) → P (k .tree) → (t : Statement) → partAt bytes node ≡ some (statement t) → P t
@@ -35,18 +48,13 @@ module _ {bytes : List ℕ} {base : ℕ} {lists : List ℕ} {node : ℕ} (k : No
   pub row-of : Row (length (typesOf bytes)) lists node
   row-of = k .listed .each node (statement (k .tree)) (k .here) .row
 
-  pub row-known : Row 32 lists node
-  row-known = record {
-    long = row-of .long;
-    inside = row-of .inside;
-    few = row-of .few;
-    low = λ i below. omega (arith, row-of .low i below, k .listed .few);
-  }
-
   pub named-of : Named bytes lists node
   named-of =
       let long : nodesAt bytes ≤ length bytes = omega (arith, node-bytes, k .based) in
       record { row = row-of; few = k .listed .few; long = long }
+
+  pub row-known : Row 32 lists node
+  row-known = named-row named-of
 
   -- the same node as the run asks for it, of this kind
   abbrev pub as-run : {kind : ℕ} → nodeAt bytes node .kind ≡ kind → RunEnterable bytes base lists node (zeros mostVariables) 0 0 kind

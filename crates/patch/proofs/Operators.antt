@@ -3,13 +3,11 @@
 use mathlib.Core.Path.{_≡_, refl, sym, ap, _∙_, subst, subst₂}
 use mathlib.Core.Bool.{Bool, true, false}
 use mathlib.Core.Option.{some}
-use mathlib.Core.List.{List, [], _∷_, _++_}
+use mathlib.Core.List.{List, _∷_, _++_}
 use Prim.Native.Nat.{ℕ, suc, _+_, _*_, _≤_, _<_}
 use native.Mathlib.Omega.{arith}
 use lib.ListN.{length, length-append}
 use lib.IntN.{ℤ}
-use mir.Syntax.{w64}
-use mir.Val.{toZ, ofZ}
 use Rattle.numbers.specs.Lay.{lay}
 use Rattle.rules.specs.Outcome.{Outcome, accepted, refused, _>>=_, need, choose, outOfRange, broken}
 use Rattle.rules.specs.Value.{Ty, inType, minus}
@@ -18,7 +16,6 @@ use Rattle.rules.specs.Table.{expression}
 use Rattle.rules.specs.Run.{compute}
 use Rattle.rules.specs.Patch as Rules
 use Rattle.rules.specs.Patch.{shift}
-use Rattle.rules.specs.Laws.Outcome.{Holds, holds-of}
 use Rattle.rules.specs.Laws.Parts.{nodeAt, partAt}
 use Rattle.rules.specs.Laws.Size.{operations}
 use Rattle.table.specs.Paper.{refusalFor}
@@ -34,8 +31,10 @@ use Rattle.patch.specs.declared.expression.Recalled.{Recalled as Answer}
 use Rattle.patch.specs.declared.expression.Recalled.the-variants.{Are, Broken}
 use Rattle.patch.specs.declared.expression.Shifted.{Shifted}
 use Rattle.patch.specs.declared.expression.Shifted.the-variants.{Is, Refused}
-use Rattle.patch.proofs.Recalling.{near-plain, Remembered, remembered, are-broken}
+use Rattle.patch.proofs.Recalling.{Remembered, remembered, are-broken}
 use Rattle.patch.proofs.Shifts.{handed-up, Got, got, evaluable}
+use Rattle.patch.proofs.Changes.{near-kept, kept}
+use Rattle.patch.specs.Laws.Head.{holds-at}
 
 -- ---- an operator's answer
 
@@ -133,7 +132,7 @@ module _ {bytes : List ℕ} {base node : ℕ} {changes old : List ℤ} {from end
           place = place′;
         }
 
-    module _ (answer : Shifted) (out one : List ℤ) (told : OperandTo bytes child (toZ w64 (ofZ w64 x)) changes old (from + 2) end answer out (at + 2) one) where
+    module _ (answer : Shifted) (out one : List ℤ) (told : OperandTo bytes child (kept x) changes old (from + 2) end answer out (at + 2) one) where
       left-answer : ShiftedAs (operandOf l x changes (part old (from + 2) end)) answer out (at + 2) one
       left-answer = subst (λ (z : ℤ). ShiftedAs (operandOf l z changes (part old (from + 2) end)) answer out (at + 2) one) (plain x (memory .left))
           (told Ty.number l (ap (partAt bytes) first ∙ left .1))
@@ -150,7 +149,7 @@ module _ {bytes : List ℕ} {base node : ℕ} {changes old : List ℤ} {from end
 
   module _ {a : ℤ} {m : ℕ} {out one : List ℤ} (got₁ : Left a m out one) where
     pub left-number : Number a
-    left-number = holds-of (subst (Holds (λ u. inType Ty.number (u .change) ≡ true)) (got₁ .comes) (operand-number l x changes (part old (from + 2) end)))
+    left-number = holds-at (got₁ .comes) (operand-number l x changes (part old (from + 2) end))
 
     module _ {child : ℕ} (second : child ≡ nodeAt bytes node .b) where
       pub right-below : child < node
@@ -171,7 +170,7 @@ module _ {bytes : List ℕ} {base node : ℕ} {changes old : List ℤ} {from end
             place = place′;
           }
 
-      module _ (answer : Shifted) (two : List ℤ) (told : OperandTo bytes child (toZ w64 (ofZ w64 y)) changes old (from + 2 + m) end answer one (at + 2 + m) two) where
+      module _ (answer : Shifted) (two : List ℤ) (told : OperandTo bytes child (kept y) changes old (from + 2 + m) end answer one (at + 2 + m) two) where
         right-answer : ShiftedAs (operandOf r y changes (part old (from + 2 + m) end)) answer one (at + 2 + m) two
         right-answer = subst (λ (z : ℤ). ShiftedAs (operandOf r z changes (part old (from + 2 + m) end)) answer one (at + 2 + m) two) (plain y (memory .right))
             (told Ty.number r (ap (partAt bytes) second ∙ right .1))
@@ -188,15 +187,15 @@ module _ {bytes : List ℕ} {base node : ℕ} {changes old : List ℤ} {from end
 
     module _ {b : ℤ} {n : ℕ} {two : List ℤ} (got₂ : Right m b n one two) where
       pub right-number : Number b
-      right-number = holds-of (subst (Holds (λ u. inType Ty.number (u .change) ≡ true)) (got₂ .comes) (operand-number r y changes (part old (from + 2 + m) end)))
+      right-number = holds-at (got₂ .comes) (operand-number r y changes (part old (from + 2 + m) end))
 
-      settles-plain : {k length : ℕ} {answer : Shifted} {after : List ℤ} → Settles k (toZ w64 (ofZ w64 a)) (toZ w64 (ofZ w64 b)) (toZ w64 (ofZ w64 was)) two at length answer after
+      settles-plain : {k length : ℕ} {answer : Shifted} {after : List ℤ} → Settles k (kept a) (kept b) (kept was) two at length answer after
           → Settles k a b was two at length answer after
-      settles-plain {k} {length} {answer} {after} f = subst (λ (z : ℤ). Settles k a b z two at length answer after) (near-plain was (memory .near))
-          (subst₂ (λ (u v : ℤ). Settles k u v (toZ w64 (ofZ w64 was)) two at length answer after) (plain a left-number) (plain b right-number) f)
+      settles-plain {k} {length} {answer} {after} f = subst (λ (z : ℤ). Settles k a b z two at length answer after) (near-kept was (memory .near))
+          (subst₂ (λ (u v : ℤ). Settles k u v (kept was) two at length answer after) (plain a left-number) (plain b right-number) f)
 
       pub operator-answer : {k : ℕ} {answer : Shifted} {after : List ℤ} → k ≡ nodeAt bytes node .kind
-          → Settles k (toZ w64 (ofZ w64 a)) (toZ w64 (ofZ w64 b)) (toZ w64 (ofZ w64 was)) two at (2 + m + n) answer after
+          → Settles k (kept a) (kept b) (kept was) two at (2 + m + n) answer after
           → ShiftsTo bytes node changes old from end answer out at after
       operator-answer {k} {answer} {after} kind s =
           let f = settles-plain s in

@@ -2,29 +2,26 @@
 -- Assumes nothing.
 use mathlib.Core.Path.{_≡_, refl, sym, ap, ap₂, _∙_, subst}
 use mathlib.Core.Logic.{⊎-elim}
-use mathlib.Core.Bool.{Bool, true, false}
+use mathlib.Core.Bool.{true, false}
 use mathlib.Core.List.{List, [], _∷_}
 use Prim.Native.Nat.{ℕ, _+_, _≤_, _<_}
 use native.Mathlib.Omega.{arith}
 use lib.ListN.{length, drop}
 use lib.IntN.{ℤ}
-use mir.Syntax.{w64}
-use mir.Val.{toZ, ofZ}
 use Rattle.numbers.specs.Laws.{decide}
-use Rattle.rules.specs.Outcome.{Refusal, Outcome, accepted, refused, _>>=_, choose, outOfRange, broken}
+use Rattle.rules.specs.Outcome.{Refusal, Outcome, accepted, refused, _>>=_, outOfRange, broken}
 use Rattle.rules.specs.Value.{Ty, inType, minus, at}
 use Rattle.rules.specs.Tree.{Operator, gives, apply}
 use Rattle.rules.specs.Table.{operator, tyOf}
 use Rattle.rules.specs.Run.{compute}
 use Rattle.rules.specs.Patch.{read, readIn}
-use Rattle.rules.specs.Laws.Outcome.{Holds, holds-of}
 use Rattle.rules.specs.Laws.Parts.{numberOfKind}
 use Rattle.table.specs.Paper.{refusalFor}
 use Rattle.run.specs.declared.number.Computed.{Computed}
 use Rattle.run.specs.declared.number.Computed.the-variants.{Is as Result, Outside}
 use Rattle.run.specs.Code.{Number, computedAs}
 use Rattle.run.specs.Laws.Expressions.{mag-of-type}
-use Rattle.run.specs.Laws.Numbers.{mag-in, plain, word-back}
+use Rattle.run.specs.Laws.Numbers.{plain}
 use Rattle.patch.specs.Change.{Near}
 use Rattle.patch.specs.Old.{part, Inside}
 use Rattle.patch.specs.Expression.{Recall, recall, RecalledAs, settledAs, Recalls}
@@ -33,39 +30,10 @@ use Rattle.patch.specs.Laws.Expression.{Recalled, recalled}
 use Rattle.patch.specs.declared.expression.Recalled.{Recalled as Answer}
 use Rattle.patch.specs.declared.expression.Recalled.the-variants.{Are, Broken}
 use Rattle.patch.specs.declared.expression.Shifted.the-variants.{Is, Refused}
-
--- ---- a near word is read back as it was written
-
-pub near-plain : (z : ℤ) → Near z → toZ w64 (ofZ w64 z) ≡ z
-near-plain z h = word-back z (omega (arith, h))
-
-pub near-back : (z : ℤ) → Near z → Near (toZ w64 (ofZ w64 z))
-near-back z h = subst Near (sym (near-plain z h)) h
-
-pub number-near : (z : ℤ) → Number z → Near z
-number-near z h = omega (arith, mag-in z h)
-
-pub number-back : (z : ℤ) → Number z → Number (toZ w64 (ofZ w64 z))
-number-back z h = subst Number (sym (plain z h)) h
+use Rattle.patch.proofs.Changes.{kept, near-kept, chosen-in, chosen-out}
+use Rattle.patch.specs.Laws.Head.{holds-at}
 
 -- ---- a number that was computed, or none
-
-pub chosen-in : (b : Bool) (z : ℤ) {w : ℤ} → choose b (Result z) Outside ≡ Result w → (b ≡ true) × (w ≡ z)
-chosen-in true z {w} e = (refl, same e)
-  where
-    same : {w : ℤ} → _≡_ {A = Computed} (Result z) (Result w) → w ≡ z
-    same p = cc
-chosen-in false z {w} e = absurd (apart e)
-  where
-    apart : {w : ℤ} → _≡_ {A = Computed} Outside (Result w) → ⊥
-    apart p = let q : _≡_ {A = ℕ} 0 1 = cc in omega arith
-
-pub chosen-out : (b : Bool) (z : ℤ) → choose b (Result z) Outside ≡ Outside → b ≡ false
-chosen-out true z e = absurd (apart e)
-  where
-    apart : _≡_ {A = Computed} (Result z) Outside → ⊥
-    apart p = let q : _≡_ {A = ℕ} 0 1 = cc in omega arith
-chosen-out false z e = refl
 
 module _ (o : Operator) (x y : ℤ) {r : Computed} (is : r ≡ computedAs o x y) where
   pub computed-none : (reason : Refusal) → r ≡ Outside → compute reason o x y ≡ refused reason
@@ -145,12 +113,12 @@ module _ (o : Operator) where
   unfolding recall readIn read
   recall-both w v ws h e = rw (h, e)
 
-module _ (old : List ℤ) (from end : ℕ) (inside : Inside old from end) where
+module _ {old : List ℤ} {from end : ℕ} (inside : Inside old from end) where
   pub recalls-short : end < from + 2 → (o : Operator) → RecalledAs (recall o (part old from end)) Broken
   recalls-short short o = recalled-broken _ (recall-short o (part old from end) (omega (arith, part-long old from end (inside .ends), short)))
 
   -- two words are there
-  module _ (room : from + 2 ≤ end) (x y : ℤ) (left : x ≡ at old from) (right : y ≡ at old (from + 1)) where
+  module _ (room : from + 2 ≤ end) {x y : ℤ} (left : x ≡ at old from) (right : y ≡ at old (from + 1)) where
     two : part old from end ≡ x ∷ y ∷ part old (from + 2) end
     two =
         let next : from + 1 + 1 ≡ from + 2 = omega arith in
@@ -175,8 +143,8 @@ module _ (old : List ℤ) (from end : ℕ) (inside : Inside old from end) where
       pub recalls-none : r ≡ Outside → RecalledAs (recall o (part old from end)) Broken
       recalls-none e = recalled-broken _ (both ∙ rw (computed-none o x y is broken e))
 
-      pub recalls-are : {z : ℤ} → r ≡ Result z → RecalledAs (recall o (part old from end)) (Are x y (toZ w64 (ofZ w64 z)))
-      recalls-are {z} e = rw (both, computed-as o x y is broken e) (ap (Are x y) (near-plain z (computed-near o x y is e)))
+      pub recalls-are : {z : ℤ} → r ≡ Result z → RecalledAs (recall o (part old from end)) (Are x y (kept z))
+      recalls-are {z} e = rw (both, computed-as o x y is broken e) (ap (Are x y) (near-kept z (computed-near o x y is e)))
 
 -- ---- an operator's old operands and old result
 
@@ -210,7 +178,7 @@ module _ (o : Operator) (old : List ℤ) (from end : ℕ) (inside : Inside old f
   by-outcome (accepted k) e x y was h =
       let same = are-of h in
       let all : Remembered o old from end (k .left) (k .right) (k .result)
-      = remembered-of k (holds-of (subst (Holds (Recalled o (part old from end))) e (recalled o (part old from end)))) e in
+      = remembered-of k (holds-at e (recalled o (part old from end))) e in
       rw (same .0, same .1 .0, same .1 .1) all
   by-outcome (refused q) e x y was h = absurd (are-broken (h .0))
 
@@ -219,8 +187,8 @@ module _ (o : Operator) (old : List ℤ) (from end : ℕ) (inside : Inside old f
 
 -- what was recalled, handed on as words
 pub recalls-back : {k kind : ℕ} {old : List ℤ} {from end : ℕ} {answer : Answer} (x y was : ℤ) → Inside old from end → k ≡ kind → Recalls k old from end answer → answer ≡ Are x y was
-    → Recalls kind old from end (Are (toZ w64 (ofZ w64 x)) (toZ w64 (ofZ w64 y)) (toZ w64 (ofZ w64 was)))
+    → Recalls kind old from end (Are (kept x) (kept y) (kept was))
 recalls-back {k} {kind} {old} {from} {end} x y was inside e h is o f =
     let are : RecalledAs (recall o (part old from end)) (Are x y was) = subst (RecalledAs (recall o (part old from end))) is (h o (f ∙ sym e)) in
     let m = remembered o old from end inside x y was are in
-    rw (plain x (m .left), plain y (m .right), near-plain was (m .near)) are
+    rw (plain x (m .left), plain y (m .right), near-kept was (m .near)) are

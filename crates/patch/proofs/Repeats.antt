@@ -2,41 +2,38 @@
 -- order, the words are those of the definition.
 -- Assumes nothing.
 use mathlib.Core.Path.{_≡_, sym, ap, ap₂, _∙_, subst}
-use Prim.Native.Nat.{ℕ, _+_, _-_, _≤_, _<_, min}
+use Prim.Native.Nat.{ℕ, _+_, _-_, _≤_, min}
 use native.Mathlib.Omega.{arith}
 use mathlib.Core.Bool.{false}
-use mathlib.Core.Option.{Option, some}
 use mathlib.Core.List.{List, _++_}
 use lib.ListN.{length, set, length-append}
 use lib.IntN.{ℤ}
 use Rattle.numbers.specs.Lay.{lay, lay-append, set-lay}
 use Rattle.rules.specs.Outcome.{accepted, refused, _>>=_}
 use Rattle.rules.specs.Outcome as Paper
-use Rattle.rules.specs.Value.{Ty, at, zeros, mostVariables}
-use Rattle.rules.specs.Tree.{Expression, Statement, mentions}
-use Rattle.rules.specs.Table.{typesOf, Part, statement}
+use Rattle.rules.specs.Value.{Ty, at}
+use Rattle.rules.specs.Tree.{Statement, mentions}
+use Rattle.rules.specs.Table.{typesOf}
 use Rattle.rules.specs.Run.{times, run, repeatWords}
 use Rattle.rules.specs.Patch.{Visited, Walked, Turn, both, stepsOf, movedAll, loop, visit, walk}
 use Rattle.rules.specs.Laws.Mentions.{_⊆_, repeat-body}
-use Rattle.rules.specs.Laws.Parts.{nodeAt, partAt}
+use Rattle.rules.specs.Laws.Parts.{nodeAt}
 use Rattle.rules.specs.Laws.Size.{Small}
 use Rattle.table.specs.Lists.{listAt}
 use Rattle.table.specs.declared.answer.Refusal.{Refusal}
 use Rattle.table.specs.declared.answer.Changes.{Changes}
 use Rattle.table.specs.declared.answer.Outcome.the-variants.{Accepted, Refused}
-use Rattle.run.specs.Laws.Loops.{AsRepeat, as-repeat, repeat-laid, repeat-long}
+use Rattle.run.specs.Laws.Loops.{repeat-laid, repeat-long}
 use Rattle.patch.specs.Old.{part}
-use Rattle.patch.specs.Laws.Snapshot.{olds-long, moved-long}
-use Rattle.patch.specs.Laws.Head.{CountAt, count-at}
+use Rattle.patch.specs.Laws.Head.{accepted-of}
 use Rattle.patch.specs.Laws.Turns.{joined, loop-turns}
 use Rattle.patch.specs.Entry.{Sound, Came, Ends, whole, WalkAs, AdvancedBy}
 use Rattle.patch.specs.Statement.{Node, Counted, Count, countOf, countLaid, repeated, IteratesTo, Turned, turnsOf, turnAt, LastAt, Turnable, visited, TurnCame, lastOf, TurnsTo, Endable, EndsTo}
 use Rattle.patch.specs.declared.entry.Reached.{Reached}
-use Rattle.patch.proofs.Walks.{Gone, gone, accepted-refused, sound-advanced}
-use Rattle.patch.proofs.Nodes.{list-is, named-of, as-run}
-
-statement-of : {t u : Statement} → some (statement t) ≡ some (statement u) → t ≡ u
-statement-of e = cc
+use Rattle.patch.proofs.Walks.{Gone, gone, sound-advanced}
+use Rattle.patch.proofs.Nodes.{same-tree}
+use Rattle.run.specs.Laws.Statements.{accepted-refused}
+use Rattle.patch.proofs.Counted.{tree-is, listed, counted-at, count-inside, width, body-here}
 
 -- the turn that the walk stands at is the one that the iterations came to
 pub turn-same : (t : Turn) (r : Reached) (old : List ℤ) (end : ℕ) → t .left ≡ r .left → r .changes .values ≡ t .changes → t .rest ≡ part old (r .from) end
@@ -61,45 +58,9 @@ module _ {bytes : List ℕ} {base : ℕ} {lists : List ℕ} {node : ℕ} {new : 
   abbrev c : Count
   c = h .count
 
-  tree-is : k .tree ≡ Statement.repeat node (h .e) (h .b)
-  tree-is = statement-of (sym (k .here) ∙ h .here)
-
-  listed : vs ≡ mentions (Statement.repeat node (h .e) (h .b))
-  listed = list-is k ∙ ap mentions tree-is
-
-  counts : countOf types vs (h .e) (s .changes .values) (part old (s .from) end) ≡ accepted c
-  counts = ap (λ (ws : List ℕ). countOf types ws (h .e) (s .changes .values) (part old (s .from) end)) listed ∙ h .counts
-
-  pub counted-at : CountAt bytes lists node (named-of k) old (s .from) end (sound .inside .ends) (s .changes .values) (h .e) c
-  counted-at = count-at bytes lists node (named-of k) old (s .from) end (sound .inside .ends) (s .changes .values) (h .e) c counts
-
-  pub count-inside : s .from + (1 + length vs + size) ≤ end
-  count-inside = omega (arith, counted-at .count .within, h .size)
-
-  width : length (c .head .snap .new) ≡ length vs
-  width = moved-long types vs (c .head .snap .old) (s .changes .values) (c .head .snap .new)
-      (ap length (counted-at .was) ∙ olds-long bytes lists node old (s .from + 1) (counted-at .first)) (counted-at .moved)
-
-  -- ---- the body
-
-  its : AsRepeat bytes node (k .tree)
-  its = as-repeat (as-run k (h .entered .kinded))
-
-  body-is : its .s ≡ h .b
-  body-is = of (sym (its .is) ∙ tree-is)
-    where
-      of : {n m : ℕ} {e f : Expression} {a b : Statement} → Statement.repeat n e a ≡ Statement.repeat m f b → a ≡ b
-      of p = cc
-
-  pub body-below : (i : ℕ) → i ≡ nodeAt bytes node .b → i < node
-  body-below i e = omega (arith, its .bodied .0)
-
-  body-here : (i : ℕ) → i ≡ nodeAt bytes node .b → partAt bytes i ≡ some (statement (h .b))
-  body-here i e = ap (partAt bytes) e ∙ its .bodied .1 ∙ ap {B = Option Part} (λ (t : Statement). some (statement t)) body-is
-
   -- ---- from the head to the iterations
 
-  module _ {u : Reached} (step : AdvancedBy (1 + length vs + size) s u) (body : ℕ) (is : body ≡ nodeAt bytes node .b) where
+  module _ {u : Reached} (step : AdvancedBy (1 + length vs + size) s u) {body : ℕ} (is : body ≡ nodeAt bytes node .b) where
     abbrev bodied : Node bytes base lists body
     bodied = record {
       program = k .program;
@@ -107,25 +68,25 @@ module _ {bytes : List ℕ} {base : ℕ} {lists : List ℕ} {node : ℕ} {new : 
       based = k .based;
       listed = k .listed;
       tree = h .b;
-      here = body-here body is;
-      small = subst Small tree-is (k .small) .2;
+      here = body-here h is;
+      small = subst Small (tree-is h) (k .small) .2;
       fine = k .fine;
     }
 
     within : mentions (h .b) ⊆ mentions (k .tree)
-    within = subst (λ (t : Statement). mentions (h .b) ⊆ mentions t) (sym tree-is) (repeat-body node (h .e) (h .b))
+    within = subst (λ (t : Statement). mentions (h .b) ⊆ mentions t) (sym (tree-is h)) (repeat-body node (h .e) (h .b))
 
     pub turns-turnable : Turnable bytes base lists node body old end u
-    turns-turnable = record { known = k; bodied = bodied; within = within; sound = sound-advanced sound step count-inside }
+    turns-turnable = record { known = k; bodied = bodied; within = within; sound = sound-advanced sound step (count-inside h) }
 
     abbrev start : Turn
     start = turnAt u old end (c .head .snap .old) (c .head .snap .new)
 
     starts : LastAt bytes lists node old (s .from + 1) start
     starts = record {
-      standing = counted-at .first;
-      was = counted-at .was;
-      moved = subst (λ (d : Changes). movedAll types vs (c .head .snap .old) (d .values) ≡ accepted (c .head .snap .new)) (sym (step .changes)) (counted-at .moved);
+      standing = counted-at h .first;
+      was = counted-at h .was;
+      moved = subst (λ (d : Changes). movedAll types vs (c .head .snap .old) (d .values) ≡ accepted (c .head .snap .new)) (sym (step .changes)) (counted-at h .moved);
     }
 
     abbrev bodyOf : ℕ → List ℤ → List ℤ → Paper.Outcome Visited
@@ -156,7 +117,7 @@ module _ {bytes : List ℕ} {base : ℕ} {lists : List ℕ} {node : ℕ} {new : 
         (ap₂ {C = Paper.Outcome Walked} (λ (n : ℕ) (d : Changes). loop types bodyOf (run (h .b)) vs was next (record { left = n; changes = d .values; old = c .head .snap .old; new = c .head .snap .new; rest = c .count .rest }))
         (sym (step .left)) (sym (step .changes))
         ∙ ap (λ (ws : List ℤ). loop types bodyOf (run (h .b)) vs was next (record { left = u .left; changes = u .changes .values; old = c .head .snap .old; new = c .head .snap .new; rest = ws }))
-        (counted-at .count .rest ∙ ap (λ (p : ℕ). part old p end) place)
+        (counted-at h .count .rest ∙ ap (λ (p : ℕ). part old p end) place)
         ∙ ap₂ {C = Paper.Outcome Walked} (λ (i j : ℕ). loop types bodyOf (run (h .b)) vs i j start) one two
         ∙ loop-turns types bodyOf (run (h .b)) vs (min was next) (was - next) (next - was) start)
 
@@ -170,39 +131,42 @@ module _ {bytes : List ℕ} {base : ℕ} {lists : List ℕ} {node : ℕ} {new : 
     repeatOf out Q (Statement.sequence n a b) = Unit {0}
     repeatOf out Q (Statement.if n e a b) = Unit {0}
 
-    count-of : {d f : Count} → accepted d ≡ accepted f → d ≡ f
-    count-of e = cc
-
     each : (out final : List ℤ) (x : Reached)
         → ((out₀ : List ℤ) → out ≡ countLaid vs out₀ (s .at) c → WalkAs ((stays >>= λ a. rest a >>= λ w. accepted (joined a w)) >>= λ w. accepted (shut w)) s x old end out₀ final)
         → IteratesTo bytes node new old end s x out final
-    each out final x w n e b here = subst (repeatOf out (λ ws b d out₀. WalkAs (repeated types ws b d (s .left) (s .changes .values)) s x old end out₀ final)) (statement-of (sym (h .here) ∙ here)) own
+    each out final x w n e b here = subst (repeatOf out (λ ws b d out₀. WalkAs (repeated types ws b d (s .left) (s .changes .values)) s x old end out₀ final)) (same-tree (h .here) here) own
       where
         own : repeatOf out (λ ws b d out₀. WalkAs (repeated types ws b d (s .left) (s .changes .values)) s x old end out₀ final) (Statement.repeat node (h .e) (h .b))
         own d g same out₀ laid =
-            let is : c ≡ d = count-of (sym (h .counts) ∙ g) in
+            let is : c ≡ d = accepted-of (sym (h .counts) ∙ g) in
             subst (λ (f : Count). WalkAs (repeated types (mentions (Statement.repeat node (h .e) (h .b))) (h .b) f (s .left) (s .changes .values)) s x old end out₀ final) is
-            (subst (λ (ws : List ℕ). WalkAs (repeated types ws (h .b) c (s .left) (s .changes .values)) s x old end out₀ final) listed
+            (subst (λ (ws : List ℕ). WalkAs (repeated types ws (h .b) c (s .left) (s .changes .values)) s x old end out₀ final) (listed h)
             (subst (λ (m : Paper.Outcome Walked). WalkAs m s x old end out₀ final) (sym repeated-is)
-            (w out₀ (laid ∙ ap₂ {C = List ℤ} (λ (ws : List ℕ) (f : Count). countLaid ws out₀ (s .at) f) (sym listed) (sym is)))))
+            (w out₀ (laid ∙ ap₂ {C = List ℤ} (λ (ws : List ℕ) (f : Count). countLaid ws out₀ (s .at) f) (sym (listed h)) (sym is)))))
 
-    module _ (stay : ℕ) (few : stay ≡ min was next) (r : Reached) (out one : List ℤ) (p : TurnsTo bytes lists node body stay old end u r out one) where
-      -- what the iterations that stay came to
-      turned : Ends (λ a. TurnCame bytes lists node (lastOf stay (s .from + 1) (r .from) (length vs)) a u r old end out one) stays r
-      turned = subst (λ (n : ℕ). Ends (λ a. TurnCame bytes lists node (lastOf stay (s .from + 1) (r .from) (length vs)) a u r old end out one) (turnsOf types bodyOf vs n start) r) few
-          (p (h .b) (body-here body is) (s .from + 1) (c .head .snap .old) (c .head .snap .new) starts)
+    module _ {stay : ℕ} (few : stay ≡ min was next) (r : Reached) (out one : List ℤ) (p : TurnsTo bytes lists node body stay old end u r out one) where
+      -- what the iterations that stay came to, and where the last snapshot stands
+      abbrev lastly-from : ℕ
+      lastly-from = lastOf stay (s .from + 1) (r .from) (length vs)
+
+      abbrev TurnsCame : Turned → Type 0
+      TurnsCame a = TurnCame bytes lists node lastly-from a u r old end out one
+
+      turned : Ends TurnsCame stays r
+      turned = subst (λ (n : ℕ). Ends TurnsCame (turnsOf types bodyOf vs n start) r) few
+          (p (h .b) (body-here h is) (s .from + 1) (c .head .snap .old) (c .head .snap .new) starts)
 
       pub iterate-refused : {q : Refusal} → r .outcome ≡ Refused q → (final : List ℤ) → IteratesTo bytes node new old end s r out final
       iterate-refused stops final = each out final r λ out₀ laid. stop stays turned stops out₀
         where
-          stop : (m : Paper.Outcome Turned) → Ends (λ a. TurnCame bytes lists node (lastOf stay (s .from + 1) (r .from) (length vs)) a u r old end out one) m r → {q : Refusal} → r .outcome ≡ Refused q → (out₀ : List ℤ)
+          stop : (m : Paper.Outcome Turned) → Ends TurnsCame m r → {q : Refusal} → r .outcome ≡ Refused q → (out₀ : List ℤ)
               → WalkAs ((m >>= λ a. rest a >>= λ w. accepted (joined a w)) >>= λ w. accepted (shut w)) s r old end out₀ final
           stop (accepted a) k e out₀ = absurd (accepted-refused (sym (k .came .sound .goes) ∙ e))
           stop (refused q) k e out₀ = k
 
       module _ (goes : r .outcome ≡ Accepted) where
-        went : Gone (λ a. TurnCame bytes lists node (lastOf stay (s .from + 1) (r .from) (length vs)) a u r old end out one) stays
-        went = gone (λ a. TurnCame bytes lists node (lastOf stay (s .from + 1) (r .from) (length vs)) a u r old end out one) stays r turned goes
+        went : Gone TurnsCame stays
+        went = gone TurnsCame stays r turned goes
 
         abbrev a : Turned
         a = went .value
@@ -213,15 +177,15 @@ module _ {bytes : List ℕ} {base : ℕ} {lists : List ℕ} {node : ℕ} {new : 
         same-turn : turnAt r old end (a .turn .old) (a .turn .new) ≡ a .turn
         same-turn = turn-same (a .turn) r old end (went .is .left) (came .changes) (came .rest)
 
-        lastly : LastAt bytes lists node old (lastOf stay (s .from + 1) (r .from) (length vs)) (turnAt r old end (a .turn .old) (a .turn .new))
-        lastly = subst (LastAt bytes lists node old (lastOf stay (s .from + 1) (r .from) (length vs))) (sym same-turn) (went .is .lastly)
+        lastly : LastAt bytes lists node old lastly-from (turnAt r old end (a .turn .old) (a .turn .new))
+        lastly = subst (LastAt bytes lists node old lastly-from) (sym same-turn) (went .is .lastly)
 
         -- where there are iterations, a snapshot stands behind the head
         pub iterate-behind : (stay ≡ 0 → ⊥) → length vs ≤ r .from
         iterate-behind has = omega (arith, came .onward, step .from)
 
-        pub iterate-endable : (last : ℕ) → last ≡ lastOf stay (s .from + 1) (r .from) (length vs) → Endable bytes base lists node body last old end r
-        iterate-endable last e = record {
+        pub iterate-endable : {last : ℕ} → last ≡ lastly-from → Endable bytes base lists node body last old end r
+        iterate-endable e = record {
           turnable = record { known = k; bodied = bodied; within = within; sound = came .sound };
           was = a .turn .old;
           new = a .turn .new;
@@ -233,7 +197,7 @@ module _ {bytes : List ℕ} {base : ℕ} {lists : List ℕ} {node : ℕ} {new : 
         unfolding both stepsOf
         closes w x two final out₀ sets laid d =
             let at-turns : u .at ≡ s .at + 1 + length vs + length (c .count .words) = omega (arith, step .at, h .size) in
-            let second : s .at + 1 + length vs ≡ s .at + 1 + length (c .head .snap .new) = omega (arith, width) in
+            let second : s .at + 1 + length vs ≡ s .at + 1 + length (c .head .snap .new) = omega (arith, width h) in
             let leaves : x .left + (a .counts .walked + w .counts .walked + (a .counts .reused + w .counts .reused) + (a .counts .fresh + w .counts .fresh)) ≡ s .left
             = omega (arith, d .leaves, came .leaves, step .left) in
             let walks : x .walked ≡ s .walked + (a .counts .walked + w .counts .walked) = omega (arith, d .walks, came .walks, step .walked) in
@@ -241,7 +205,7 @@ module _ {bytes : List ℕ} {base : ℕ} {lists : List ℕ} {node : ℕ} {new : 
             let onward : s .from ≤ x .from = omega (arith, d .onward, came .onward, step .from) in
             let words = a .words ++ w .words in
             let ends : x .at ≡ s .at + length (repeatWords (c .count .change) (c .head .snap .new) (c .count .words) words)
-            = omega (arith, d .ends, came .ends, at-turns, width, length-append (a .words) (w .words), repeat-long (c .count .change) (c .head .snap .new) (c .count .words) words) in
+            = omega (arith, d .ends, came .ends, at-turns, width h, length-append (a .words) (w .words), repeat-long (c .count .change) (c .head .snap .new) (c .count .words) words) in
             let turns : final ≡ lay (set out (s .at) new) (u .at) words
             = d .lays
             ∙ ap₂ {C = List ℤ} (λ (l : List ℤ) (i : ℕ). lay l i (w .words)) (sets ∙ ap (λ (l : List ℤ). set l (s .at) new) (came .lays) ∙ set-lay out (s .at) (u .at) new (a .words) (omega (arith, step .at))) (came .ends)
@@ -260,11 +224,11 @@ module _ {bytes : List ℕ} {base : ℕ} {lists : List ℕ} {node : ℕ} {new : 
                   ∙ repeat-laid out₀ (c .head .snap .new) (c .count .words) words (c .count .change) (s .at) (s .at + 1 + length vs) (u .at) second at-turns;
             }
 
-        pub iterate-answer : (last : ℕ) → last ≡ lastOf stay (s .from + 1) (r .from) (length vs) → (x : Reached) (two final : List ℤ) → two ≡ set one (s .at) new
+        pub iterate-answer : {last : ℕ} → last ≡ lastly-from → (x : Reached) (two final : List ℤ) → two ≡ set one (s .at) new
             → EndsTo bytes lists node body (was - next) (next - was) last old end r x two final → IteratesTo bytes node new old end s x out final
-        iterate-answer last e x two final sets g = each out final x λ out₀ laid. rw (went .comes) (ended (rest a) out₀ laid
+        iterate-answer e x two final sets g = each out final x λ out₀ laid. rw (went .comes) (ended (rest a) out₀ laid
             (subst (λ (t : Turn). WalkAs (loop types bodyOf (run (h .b)) vs (was - next) (next - was) t) r x old end two final) same-turn
-            (g (h .b) (body-here body is) (a .turn .old) (a .turn .new) (subst (λ (n : ℕ). LastAt bytes lists node old n (turnAt r old end (a .turn .old) (a .turn .new))) (sym e) lastly))))
+            (g (h .b) (body-here h is) (a .turn .old) (a .turn .new) (subst (λ (n : ℕ). LastAt bytes lists node old n (turnAt r old end (a .turn .old) (a .turn .new))) (sym e) lastly))))
           where
             ended : (m : Paper.Outcome Walked) (out₀ : List ℤ) → out ≡ countLaid vs out₀ (s .at) c → WalkAs m r x old end two final
                 → WalkAs ((m >>= λ w. accepted (joined a w)) >>= λ w. accepted (shut w)) s x old end out₀ final

@@ -3,7 +3,7 @@
 use mathlib.Core.Path.{_≡_, refl, sym, ap, ap₂, _∙_, subst}
 use Prim.Native.Nat.{ℕ, zero, suc, _+_, _-_, _<_}
 use native.Mathlib.Omega.{arith}
-use mathlib.Core.Bool.{Bool, true, false}
+use mathlib.Core.Bool.{Bool, true, false, false≢true}
 use mathlib.Core.List.{List, [], _∷_, _++_}
 use lib.Dec.{leb}
 use lib.IntN.{ℤ, pos, natAbs}
@@ -11,12 +11,12 @@ use lib.Signed.{leZ}
 use Rattle.numbers.specs.Signed.{eqZ, between}
 use Rattle.rules.specs.Outcome.{accepted, refused, _>>=_, choose, broken, fuelSpent}
 use Rattle.rules.specs.Outcome as Paper
-use Rattle.rules.specs.Value.{Ty, unchanged, zeros, mostVariables}
+use Rattle.rules.specs.Value.{Ty, unchanged}
 use Rattle.rules.specs.Tree.{Statement, nodeOf, mentions}
 use Rattle.rules.specs.Table.{typesOf}
 use Rattle.rules.specs.Run.{opening, mostSteps}
 use Rattle.rules.specs.Patch.{Entry, Visited, Walked, Walk, both, stepsOf, cut, ends, meet, skipped, paid, visit, walk}
-use Rattle.rules.specs.Laws.Outcome.{Holds, value, vacant, holds-bind, holds-need, holds-any, holds-map, holds-of}
+use Rattle.rules.specs.Laws.Outcome.{Holds, value, vacant, holds-bind, holds-need, holds-any, holds-map}
 use Rattle.rules.specs.Laws.Parts.{nodeAt, partAt}
 use Rattle.rules.specs.Laws.Size.{Small}
 use Rattle.table.specs.declared.answer.Refusal.{Refusal}
@@ -28,16 +28,14 @@ use Rattle.patch.specs.Statement.{Visitable, VisitsTo, Enterable, WalksT
 use Rattle.patch.specs.declared.entry.Reached.{Reached}
 use Rattle.patch.proofs.Walks.{Gone, gone, handed-up, ends-map, came-then}
 use Rattle.patch.proofs.Nodes.{for-tree, as-run, child}
+use Rattle.patch.specs.Laws.Head.{holds-at}
 
 -- ---- a last part leaves nothing behind
 
 nothing-behind : (ws : List ℤ) → ends true ws ≡ true → ws ≡ []
 unfolding ends
 nothing-behind [] e = refl
-nothing-behind (w ∷ ws) e = absurd (false-true e)
-  where
-    false-true : false ≡ true → ⊥
-    false-true p = let z : _≡_ {A = ℕ} 0 1 = cc in omega arith
+nothing-behind (w ∷ ws) e = absurd (false≢true e)
 
 meet-last : (node : ℕ) (ws : List ℤ) → Holds (λ e. e .behind ≡ []) (meet node true ws)
 unfolding meet
@@ -70,7 +68,7 @@ visit-all t own fuel changes ws = holds-bind (meet (nodeOf t) true ws) _ (meet-l
     holds-map (λ v same. same ∙ none) (chosen-rest (unchanged (mentions t) changes) (nodeOf t) own e fuel changes)
 
 pub visit-last : (t : Statement) (own : Walk) (fuel : ℕ) (changes ws : List ℤ) (v : Visited) → visit t own true fuel changes ws ≡ accepted v → v .rest ≡ []
-visit-last t own fuel changes ws v e = holds-of (subst (Holds (λ x. x .rest ≡ [])) e (visit-all t own fuel changes ws))
+visit-last t own fuel changes ws v e = holds-at e (visit-all t own fuel changes ws)
 
 -- what a visit of a last part comes to, with nothing behind it
 pub with-rest : (P : Visited → Type 0) (m : Paper.Outcome Visited) (r : Reached) → Ends P m r → ((v : Visited) → m ≡ accepted v → v .rest ≡ []) → Ends (λ v. P v × (v .rest ≡ [])) m r

@@ -1,14 +1,12 @@
 -- Shifts in code: what an answer says, an operand's answer from its expression's, and what a constant and a variable answer.
 -- Assumes nothing.
-use mathlib.Core.Path.{_≡_, refl, sym, ap, ap₂, _∙_, subst}
+use mathlib.Core.Path.{_≡_, refl, sym, ap, ap₂, _∙_}
 use mathlib.Core.Option.{some}
 use mathlib.Core.List.{List, []}
 use Prim.Native.Nat.{ℕ, _+_, _*_, _≤_, _<_}
 use native.Mathlib.Omega.{arith}
 use lib.ListN.{length, take, drop}
 use lib.IntN.{ℤ, pos}
-use mir.Syntax.{w64}
-use mir.Val.{toZ, ofZ}
 use Rattle.numbers.specs.Lay.{lay}
 use Rattle.rules.specs.Outcome.{Outcome, accepted, refused, _>>=_, broken}
 use Rattle.rules.specs.Value.{Ty, inType, typeOf, plus, at as valueAt}
@@ -24,25 +22,29 @@ use Rattle.table.specs.Paper.{refusalFor}
 use Rattle.table.specs.declared.answer.Refusal.{Refusal}
 use Rattle.run.specs.declared.number.Computed.{Computed}
 use Rattle.run.specs.declared.number.Computed.the-variants.{Is as Result, Outside}
-use Rattle.run.specs.Code.{Evaluable}
+use Rattle.run.specs.Code.{Evaluable, Number}
 use Rattle.run.specs.Laws.Numbers.{plain}
 use Rattle.run.specs.Laws.Expressions.{for-each, bytes-inside, read-node, few, built}
 use Rattle.patch.specs.Change.{Near, AllNear, movedAs}
 use Rattle.patch.specs.Old.{part, Inside}
-use Rattle.patch.specs.Expression.{operandOf, ShiftedAs, Shiftable}
+use Rattle.patch.specs.Expression.{operandOf, ShiftedAs, Shiftable, ShiftsTo, OperandTo}
 use Rattle.patch.specs.Laws.Old.{part-long, part-drop}
-use Rattle.patch.specs.Laws.Expression.{Sized, shift-near}
+use Rattle.patch.specs.Laws.Expression.{Sized, shift-near, shift-sized}
 use Rattle.patch.specs.declared.expression.Shifted.{Shifted}
 use Rattle.patch.specs.declared.expression.Shifted.the-variants.{Is, Refused}
-use Rattle.patch.proofs.Recalling.{chosen-in, chosen-out}
+use Rattle.patch.proofs.Changes.{chosen-in, chosen-out, kept, near-kept, kept-near, number-near}
+use Rattle.patch.specs.Laws.Head.{holds-at}
 
 -- ---- an answer, refused or given
 
-is-of : {x y : ℤ} {i j : ℕ} → _≡_ {A = Shifted} (Is x i) (Is y j) → (x ≡ y) × (i ≡ j)
+pub is-of : {x y : ℤ} {i j : ℕ} → _≡_ {A = Shifted} (Is x i) (Is y j) → (x ≡ y) × (i ≡ j)
 is-of p = (cc, cc)
 
-is-refused : {x : ℤ} {i : ℕ} {q : Refusal} → _≡_ {A = Shifted} (Is x i) (Refused q) → ⊥
+pub is-refused : {x : ℤ} {i : ℕ} {q : Refusal} → _≡_ {A = Shifted} (Is x i) (Refused q) → ⊥
 is-refused p = let z : _≡_ {A = ℕ} 0 1 = cc in omega arith
+
+pub refused-of : {p q : Refusal} → _≡_ {A = Shifted} (Refused p) (Refused q) → p ≡ q
+refused-of e = cc
 
 -- a refusal is handed up unchanged
 pub handed-up : (m : Outcome Rules.Shifted) (next : Rules.Shifted → Outcome Rules.Shifted) {r : Shifted} (q : Refusal) (out out′ : List ℤ) (at at′ : ℕ) (after after′ : List ℤ)
@@ -82,27 +84,7 @@ module _ (e : Expression) (old : List ℤ) (from end : ℕ) (inside : Inside old
 -- the change of an expression, where all changes are near
 pub got-near : {e : Expression} (changes : List ℤ) {old : List ℤ} {from end : ℕ} {x : ℤ} {n : ℕ} {out : List ℤ} {at : ℕ} {after : List ℤ} → AllNear changes
     → Got e (shift e changes (part old from end)) old from end x n out at after → Near x
-got-near {e} changes {old} {from} {end} near g = holds-of (subst (Holds (λ s. Near (s .change))) (g .comes) (shift-near e changes (part old from end) near))
-
--- ---- an operand: the change of its expression, added
-
-module _ (e : Expression) (was : ℤ) (changes old : List ℤ) (from end : ℕ) (out : List ℤ) (at : ℕ) (after : List ℤ) where
-  pub operand-refused : (q : Refusal) {r : Shifted} → ShiftedAs (shift e changes (part old from end)) r out at after → r ≡ Refused q
-      → ShiftedAs (operandOf e was changes (part old from end)) r out at after
-  unfolding operandOf
-  operand-refused q h f = handed-up (shift e changes (part old from end)) _ q out out at at after after h f
-
-  module _ {change : ℤ} {n : ℕ} (g : Got e (shift e changes (part old from end)) old from end change n out at after) {r : Computed} (is : r ≡ movedAs (tyOf 0) was change) where
-    pub operand-broken : r ≡ Outside → ShiftedAs (operandOf e was changes (part old from end)) (Refused (refusalFor broken)) out at after
-    unfolding operandOf moved tyOf
-    operand-broken f = rw (g .comes, chosen-out (inType Ty.number (plus Ty.number was change)) (plus Ty.number was change) (sym is ∙ f)) refl
-
-    pub operand-moved : {z : ℤ} → r ≡ Result z → ShiftedAs (operandOf e was changes (part old from end)) (Is (toZ w64 (ofZ w64 z)) n) out at after
-    unfolding operandOf moved tyOf
-    operand-moved {z} f =
-        let h = chosen-in (inType Ty.number (plus Ty.number was change)) (plus Ty.number was change) (sym is ∙ f) in
-        let new : toZ w64 (ofZ w64 z) ≡ plus Ty.number was change = ap (λ (w : ℤ). toZ w64 (ofZ w64 w)) (h .1) ∙ plain (plus Ty.number was change) (h .0) in
-        rw (g .comes, h .0) (ap₂ {C = Shifted} Is new (g .long), g .lays)
+got-near {e} changes {old} {from} {end} near g = holds-at (g .comes) (shift-near e changes (part old from end) near)
 
 -- ---- what stands at the node
 
@@ -131,6 +113,49 @@ module _ {bytes : List ℕ} {base node : ℕ} {changes old : List ℤ} {from end
 
   pub variable-below : (tag : ℕ) → tag ≡ nodeAt bytes node .tag → nodeAt bytes node .kind ≡ 3 → tag < 32
   variable-below tag e k = omega (arith, e, few evaluable, built evaluable Kind.variable k .1)
+
+  -- ---- the change that was answered for it, and an operand from that
+
+  abbrev pub Change : ℤ → ℕ → List ℤ → List ℤ → Type 0
+  Change x n out after = Got tree (shift tree changes (part old from end)) old from end x n out at after
+
+  module _ (answer : Shifted) (out after : List ℤ) (told : ShiftsTo bytes node changes old from end answer out at after) where
+    pub change-got : {x : ℤ} {n : ℕ} → answer ≡ Is x n → Change x n out after
+    change-got {x} {n} =
+        got tree old from end inside x n out at after (shift tree changes (part old from end)) (shift-sized tree changes (part old from end)) (told type tree here)
+
+    pub operand-refused : (was : ℤ) {q : Refusal} → answer ≡ Refused q → OperandTo bytes node was changes old from end answer out at after
+    unfolding operandOf
+    operand-refused was {q} e =
+        for-each bytes node (λ d. ShiftedAs (operandOf d was changes (part old from end)) answer out at after) here
+        (handed-up (shift tree changes (part old from end)) _ q out out at at after after (told type tree here) e)
+
+  module _ {x : ℤ} {n : ℕ} {out after : List ℤ} (g : Change x n out after) (was : ℤ) (number : Number was) where
+    change-near : Near x
+    change-near = got-near changes near g
+
+    pub movable : Near (kept was) × Near (kept x)
+    movable = (kept-near was (number-near was number), kept-near x change-near)
+
+    module _ {r : Computed} (is : r ≡ movedAs (tyOf 0) (kept was) (kept x)) where
+      moves : r ≡ movedAs (tyOf 0) was x
+      moves = is ∙ ap₂ {C = Computed} (movedAs (tyOf 0)) (near-kept was (number-near was number)) (near-kept x change-near)
+
+      pub operand-broken : r ≡ Outside → OperandTo bytes node was changes old from end (Refused (refusalFor broken)) out at after
+      unfolding operandOf moved tyOf
+      operand-broken e =
+          for-each bytes node (λ d. ShiftedAs (operandOf d was changes (part old from end)) (Refused (refusalFor broken)) out at after) here
+          (rw (g .comes, chosen-out (inType Ty.number (plus Ty.number was x)) (plus Ty.number was x) (sym moves ∙ e)) refl)
+
+      pub operand-moved : {z : ℤ} → r ≡ Result z → OperandTo bytes node was changes old from end (Is (kept z) n) out at after
+      unfolding operandOf moved tyOf
+      operand-moved {z} e =
+          let new = chosen-in (inType Ty.number (plus Ty.number was x)) (plus Ty.number was x) (sym moves ∙ e) in
+          let is-new : kept z ≡ plus Ty.number was x = ap (λ (w : ℤ). kept w) (new .1) ∙ plain (plus Ty.number was x) (new .0) in
+          for-each bytes node (λ d. ShiftedAs (operandOf d was changes (part old from end)) (Is (kept z) n) out at after) here
+          (rw (g .comes, new .0) (ap₂ {C = Shifted} Is is-new (g .long), g .lays))
+
+  -- ---- leaves
 
   module _ (out : List ℤ) where
     -- a leaf's answer: this change, and nothing is laid down

@@ -3,7 +3,7 @@
 use mathlib.Core.Path.{_≡_, refl, sym, ap, ap₂, _∙_, subst}
 use Prim.Native.Nat.{ℕ, _+_, _-_, _*_, _≤_, _<_}
 use native.Mathlib.Omega.{arith}
-use mathlib.Core.Bool.{Bool, true, false}
+use mathlib.Core.Bool.{Bool, true, false, true≢false}
 use mathlib.Core.List.{List, []}
 use lib.ListN.{length, drop}
 use lib.IntN.{ℤ}
@@ -32,10 +32,6 @@ use Rattle.patch.specs.declared.entry.Reached.{Reached}
 use Rattle.patch.proofs.Nodes.{named-of}
 use Rattle.patch.proofs.Fresh.{from-last, store-fine, store-back, fresh-came}
 
--- no test both holds and fails
-differ : {b : Bool} → b ≡ true → b ≡ false → ⊥
-differ e g = let y : _≡_ {A = ℕ} 0 1 = cc in omega arith
-
 module _ {bytes lists : List ℕ} {node last : ℕ} {old : List ℤ} {end : ℕ} {s : Reached} (h : Shrinkable bytes lists node last old end s) where
   abbrev vs : List ℕ
   vs = listAt lists node
@@ -52,7 +48,7 @@ module _ {bytes lists : List ℕ} {node last : ℕ} {old : List ℤ} {end : ℕ}
   unfolding shrunk
   shrunk-by m is r f out was new l = subst (λ (o : Paper.Outcome Snapshot). WalkAs (o >>= λ t. accepted (closed new t)) s r old end out out) (sym is) (f out was new l)
 
-  module _ (w : ℕ) (wide : w ≡ length vs) where
+  module _ {w : ℕ} (wide : w ≡ length vs) where
     long : length (part old (s .from) end) ≡ end - s .from
     long = part-long old (s .from) end (h .sound .inside .ends)
 
@@ -93,7 +89,7 @@ module _ {bytes lists : List ℕ} {node last : ℕ} {old : List ℤ} {end : ℕ}
         shrunk-broken wrong r stops = shrunk-by reads tailed r (λ out was new l. of reads f out new)
           where
             of : (m : Paper.Outcome Snapshot) → FitsAs m fits → (out new : List ℤ) → WalkAs (m >>= λ t. accepted (closed new t)) s r old end out out
-            of (accepted t) g out new = absurd (differ g wrong)
+            of (accepted t) g out new = absurd (true≢false (sym g ∙ wrong))
             of (refused q) g out new = stops ∙ ap (λ (p : Paper.Refusal). Refused (refusalFor p)) (sym (g .1))
 
         module _ (right : fits ≡ true) where
@@ -107,7 +103,7 @@ module _ {bytes lists : List ℕ} {node last : ℕ} {old : List ℤ} {end : ℕ}
             where
               of : (m : Paper.Outcome Snapshot) → reads ≡ m → FitsAs m fits → Tail
               of (accepted t) e g = record { snap = t; comes = e; stands = read-at bytes lists node (named-of (h .known)) old (end - w) end tail-inside t e }
-              of (refused q) e g = absurd (differ right (g .0))
+              of (refused q) e g = absurd (true≢false (sym right ∙ g .0))
 
           pub tail-standing : Standing bytes lists node old (end - w)
           tail-standing = tail-at .stands .standing

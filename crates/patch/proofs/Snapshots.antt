@@ -17,7 +17,6 @@ use Rattle.numbers.specs.Laws.{and-left, and-right, and-both, decide, eqZ-true}
 use Rattle.rules.specs.Outcome.{Outcome, accepted, refused, _>>=_, broken}
 use Rattle.rules.specs.Value.{Ty, at, typeOf, inType, plus, minus, put, minusAll, snapshot, unchanged}
 use Rattle.rules.specs.Patch.{Snapshot, read, readIn, moved, readSnapshot, movedAll}
-use Rattle.rules.specs.Laws.Store.{length-put}
 use Rattle.patch.specs.Old.{part, Inside}
 use Rattle.patch.specs.Laws.Old.{part-long, part-at}
 use Rattle.patch.specs.Snapshot.{FitsAs, MovedAs, plusEach}
@@ -194,8 +193,8 @@ module _ (types : List Ty) (store : List ℤ) where
 -- ---- words put into a store, one a turn
 
 -- the store with the first i of the words put
-abbrev pub Putting : List ℤ → List ℕ → List ℤ → ℕ → List ℤ → Type 0
-Putting words vs zs i out = out ≡ put (take i vs) (take i zs) words
+pub record Putting (words : List ℤ) (vs : List ℕ) (zs : List ℤ) (i : ℕ) (out : List ℤ) : Type 0 where
+  pub is : out ≡ put (take i vs) (take i zs) words
 
 put-next : (words : List ℤ) (vs : List ℕ) (zs : List ℤ) (i : ℕ) → i < length vs → i < length zs
     → put (take (suc i) vs) (take (suc i) zs) words ≡ set (put (take i vs) (take i zs) words) (getD vs i 0) (at zs i)
@@ -205,19 +204,17 @@ put-next words (v ∷ vs) [] i low below = absurd (omega arith)
 put-next words (v ∷ vs) (z ∷ zs) zero low below = refl
 put-next words (v ∷ vs) (z ∷ zs) (suc i) low below = put-next (set words v z) vs zs i (omega arith) (omega arith)
 
-module _ (words : List ℤ) (vs : List ℕ) (zs : List ℤ) where
+module _ {words : List ℤ} {vs : List ℕ} {zs : List ℤ} where
   pub put-none : Putting words vs zs 0 words
   unfolding put
-  put-none = refl
+  put-none = record { is = refl }
 
-  pub put-more : (i v : ℕ) (z : ℤ) {out : List ℤ} → Putting words vs zs i out → i < length vs → i < length zs → v ≡ getD vs i 0 → z ≡ at zs i
+  pub put-more : {i v : ℕ} {z : ℤ} {out : List ℤ} → Putting words vs zs i out → i < length vs → i < length zs → v ≡ getD vs i 0 → z ≡ at zs i
       → Putting words vs zs (i + 1) (set out v z)
-  put-more i v z {out} so low below is word =
-      ap₂ {C = List ℤ} (set out) is word ∙ ap (λ (l : List ℤ). set l (getD vs i 0) (at zs i)) so ∙ sym (put-next words vs zs i low below)
-      ∙ ap (λ (n : ℕ). put (take n vs) (take n zs) words) (sym (add-one i))
+  put-more {i} {out = out} so low below is word = record {
+    is = ap₂ {C = List ℤ} (set out) is word ∙ ap (λ (l : List ℤ). set l (getD vs i 0) (at zs i)) (so .is) ∙ sym (put-next words vs zs i low below)
+        ∙ ap (λ (n : ℕ). put (take n vs) (take n zs) words) (sym (add-one i));
+  }
 
-  pub put-all : (i : ℕ) {out : List ℤ} → Putting words vs zs i out → length vs ≤ i → length zs ≤ i → out ≡ put vs zs words
-  put-all i so past over = so ∙ ap₂ {C = List ℤ} (λ (us : List ℕ) (ys : List ℤ). put us ys words) (take-all i vs past) (take-all i zs over)
-
-  pub put-long : (i : ℕ) {out : List ℤ} → Putting words vs zs i out → length out ≡ length words
-  put-long i so = ap length so ∙ length-put (take i vs) (take i zs) words
+  pub put-all : {i : ℕ} {out : List ℤ} → Putting words vs zs i out → length vs ≤ i → length zs ≤ i → out ≡ put vs zs words
+  put-all {i} so past over = so .is ∙ ap₂ {C = List ℤ} (λ (us : List ℕ) (ys : List ℤ). put us ys words) (take-all i vs past) (take-all i zs over)

@@ -13,7 +13,6 @@ use Rattle.rules.specs.Table.{typesOf, Program, check}
 use Rattle.rules.specs.Patch.{Visited}
 use Rattle.rules.specs.Call.{Finished, Header, header, inputsOf, legal, answered, within, finishPatch, callCheck, callPatch, IsCheck, IsPatch}
 use Rattle.rules.specs.Laws.Answer.{number-injective}
-use Rattle.rules.specs.Laws.Outcome.{Holds, holds-of}
 use Rattle.rules.specs.Laws.Parts.{through}
 use Rattle.table.specs.Paper.{numberOf, answerOf, reasonOf}
 use Rattle.table.specs.declared.answer.Refusal.{Refusal}
@@ -25,6 +24,7 @@ use Rattle.run.specs.Call.{Answers}
 use Rattle.run.specs.Laws.Tests.{refused-some, accepted-of, stays}
 use Rattle.patch.specs.Call.{HeadedAs, Ready, tests, Tested, Startable, rootVisit, finished, PatchAnswers}
 use Rattle.patch.proofs.Headers.{Whole, header-whole}
+use Rattle.patch.specs.Laws.Head.{holds-at}
 
 -- what the test of the changes makes of a program and a header
 abbrev decided : Program → Header → Bool → Paper.Outcome Ready
@@ -46,15 +46,15 @@ ending changes r = rootVisit r (padded changes) >>= ended changes (r .program .t
 module _ (bytes : List ℕ) (old changes : List ℤ) where
   -- ---- the table's tests
 
-  pub check-refused : (r : Outcome) (q : Refusal) → r ≡ Refused q → IsCheck bytes (numberOf r) → Tested bytes old changes r
+  pub check-refused : {r : Outcome} {q : Refusal} → r ≡ Refused q → IsCheck bytes (numberOf r) → Tested bytes old changes r
   unfolding IsCheck callCheck tests
-  check-refused r q e h = stays (check bytes) _ (numberOf r) (refused-some q e) h
+  check-refused {r} {q} e h = stays (check bytes) _ (numberOf r) (refused-some q e) h
 
-  pub check-accepted : (r : Outcome) → r ≡ Accepted → IsCheck bytes (numberOf r) → (p : Program) × (check bytes ≡ accepted p)
+  pub check-accepted : {r : Outcome} → r ≡ Accepted → IsCheck bytes (numberOf r) → (p : Program) × (check bytes ≡ accepted p)
   unfolding IsCheck callCheck
-  check-accepted r e h = accepted-of (check bytes) (sym (ap numberOf e) ∙ h)
+  check-accepted e h = accepted-of (check bytes) (sym (ap numberOf e) ∙ h)
 
-  module _ (p : Program) (checked : check bytes ≡ accepted p) where
+  module _ {p : Program} (checked : check bytes ≡ accepted p) where
     -- ---- the header's
 
     tests-are : tests bytes old changes ≡ (header (typesOf bytes) old >>= judged changes (typesOf bytes) p)
@@ -63,16 +63,16 @@ module _ (bytes : List ℕ) (old changes : List ℤ) where
         ap (λ (m : Paper.Outcome Program). m >>= λ q. header (q .types) old >>= judged changes (q .types) q) checked
         ∙ ap (λ (types : List Ty). header types old >>= judged changes types p) (through bytes p checked .types)
 
-    pub header-refused : (r : Bool) → HeadedAs (header (typesOf bytes) old) r → r ≡ false → Tested bytes old changes (Refused Broken)
+    pub header-refused : {r : Bool} → HeadedAs (header (typesOf bytes) old) r → r ≡ false → Tested bytes old changes (Refused Broken)
     unfolding Paper.numberOf
-    header-refused r h e = sym (ap Paper.numberOf tests-are ∙ along (header (typesOf bytes) old) h)
+    header-refused {r} h e = sym (ap Paper.numberOf tests-are ∙ along (header (typesOf bytes) old) h)
       where
         along : (m : Paper.Outcome Header) → HeadedAs m r → Paper.numberOf (m >>= judged changes (typesOf bytes) p) ≡ paperNumber broken
         along (accepted x) f = absurd (true≢false (sym f ∙ e))
         along (refused q) f = ap paperNumber (f .1)
 
-    pub header-accepted : (r : Bool) → HeadedAs (header (typesOf bytes) old) r → r ≡ true → (h : Header) × (header (typesOf bytes) old ≡ accepted h)
-    header-accepted r h e = along (header (typesOf bytes) old) h
+    pub header-accepted : {r : Bool} → HeadedAs (header (typesOf bytes) old) r → r ≡ true → (h : Header) × (header (typesOf bytes) old ≡ accepted h)
+    header-accepted {r} h e = along (header (typesOf bytes) old) h
       where
         along : (m : Paper.Outcome Header) → HeadedAs m r → (x : Header) × (m ≡ accepted x)
         along (accepted x) f = (x, refl)
@@ -80,9 +80,9 @@ module _ (bytes : List ℕ) (old changes : List ℤ) where
 
     -- ---- those of the changes
 
-    module _ (h : Header) (headed : header (typesOf bytes) old ≡ accepted h) where
+    module _ {h : Header} (headed : header (typesOf bytes) old ≡ accepted h) where
       pub whole : Whole (typesOf bytes) old h
-      whole = holds-of (subst (Holds (Whole (typesOf bytes) old)) headed (header-whole (typesOf bytes) old))
+      whole = holds-at headed (header-whole (typesOf bytes) old)
 
       -- a test that the code has made
       change-decides : (l : Bool) → l ≡ legal (typesOf bytes) (inputsOf (typesOf bytes) old) changes → tests bytes old changes ≡ decided p h l
@@ -91,16 +91,16 @@ module _ (bytes : List ℕ) (old changes : List ℤ) where
           tests-are ∙ ap (λ (m : Paper.Outcome Header). m >>= judged changes (typesOf bytes) p) headed
           ∙ ap (decided p h) (ap (λ (ws : List ℤ). legal (typesOf bytes) ws changes) inputs ∙ sym e)
 
-      pub change-refused : (l : Bool) → l ≡ legal (typesOf bytes) (inputsOf (typesOf bytes) old) changes → l ≡ false → Tested bytes old changes (Refused Change)
+      pub change-refused : {l : Bool} → l ≡ legal (typesOf bytes) (inputsOf (typesOf bytes) old) changes → l ≡ false → Tested bytes old changes (Refused Change)
       unfolding Paper.numberOf
-      change-refused l e f = sym (ap Paper.numberOf (change-decides l e ∙ ap (decided p h) f))
+      change-refused {l} e f = sym (ap Paper.numberOf (change-decides l e ∙ ap (decided p h) f))
 
-      pub all-passed : (l : Bool) → l ≡ legal (typesOf bytes) (inputsOf (typesOf bytes) old) changes → l ≡ true → Tested bytes old changes Accepted
+      pub all-passed : {l : Bool} → l ≡ legal (typesOf bytes) (inputsOf (typesOf bytes) old) changes → l ≡ true → Tested bytes old changes Accepted
       unfolding Paper.numberOf
-      all-passed l e f = sym (ap Paper.numberOf (change-decides l e ∙ ap (decided p h) f))
+      all-passed {l} e f = sym (ap Paper.numberOf (change-decides l e ∙ ap (decided p h) f))
 
-  pub startable : (r : Outcome) → r ≡ Accepted → Tested bytes old changes r → Startable bytes old changes
-  startable r e h = let a = accepted-of (tests bytes old changes) (sym (ap numberOf e) ∙ h) in record { ready = a .0; passed = a .1 }
+  pub startable : {r : Outcome} → r ≡ Accepted → Tested bytes old changes r → Startable bytes old changes
+  startable e h = let a = accepted-of (tests bytes old changes) (sym (ap numberOf e) ∙ h) in record { ready = a .0; passed = a .1 }
 
   -- ---- the call
 
@@ -127,10 +127,10 @@ module _ (bytes : List ℕ) (old changes : List ℤ) where
     leaves = w .1 ∙ ap (λ (n : ℕ). answered n (finishPatch bytes old changes >>= within n) .buffer) (sym same);
   }
 
-  pub patch-refused : (r : Outcome) (q : Refusal) → r ≡ Refused q → Tested bytes old changes r → (a : Answer) (out after : List ℤ) → Answers (length out) (refused (reasonOf q)) a after → length after ≡ length out
+  pub patch-refused : {r : Outcome} {q : Refusal} → r ≡ Refused q → Tested bytes old changes r → (a : Answer) (out after : List ℤ) → Answers (length out) (refused (reasonOf q)) a after → length after ≡ length out
       → IsPatch bytes old changes (answerOf a) after
   unfolding Paper.numberOf
-  patch-refused r q e h a out after w same =
+  patch-refused {r} {q} e h a out after w same =
       patch-answer a out after (subst (λ (o : Paper.Outcome Finished). Answers (length out) (o >>= within (length out)) a after) (sym finish-by) (handed (tests bytes old changes) h)) same
     where
       handed : (m : Paper.Outcome Ready) → numberOf r ≡ Paper.numberOf m → Answers (length out) ((m >>= ending changes) >>= within (length out)) a after

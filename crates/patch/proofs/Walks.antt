@@ -20,11 +20,9 @@ use Rattle.patch.specs.Change.{AllNear}
 use Rattle.patch.specs.Old.{Inside}
 use Rattle.patch.specs.Entry.{Sound, Came, Ends, Stepped, AdvancedBy}
 use Rattle.patch.specs.declared.entry.Reached.{Reached}
+use Rattle.run.specs.Laws.Statements.{accepted-refused}
 
 -- ---- how a walk ends
-
-pub accepted-refused : {q : Refusal} → Accepted ≡ Refused q → ⊥
-accepted-refused e = let z : _≡_ {A = ℕ} 0 1 = cc in omega arith
 
 -- the value that a walk that goes on has come to
 pub record Gone {A : Type 0} (P : A → Type 0) (m : Paper.Outcome A) : Type 0 where

@@ -10,7 +10,7 @@ use Rattle.calls.proofs.answer_next.Lts as lts
 use Rattle.calls.proofs.ends_inside.Reads as ends-inside-reads
 use Rattle.calls.proofs.execute.execute.Reads as execute-reads
 use Rattle.calls.proofs.stream.next_call.Reads as next-call-reads
-use Rattle.calls.proofs.text.say.Reads as say-reads
+use Rattle.text.proofs.line.say.Reads as say-reads
 
 next-call-requires : tie.Need-next-call-requires
 next-call-requires c κs = search needs

@@ -17,7 +17,7 @@ use Rattle.numbers.specs.Laws.{decide, eqZ-true, eqZ-refl}
 use Rattle.rules.specs.Outcome.{Outcome, accepted, refused, _>>=_, need, broken}
 use Rattle.rules.specs.Value.{at}
 use Rattle.rules.specs.Run.{mostSteps}
-use Rattle.rules.specs.Patch.{Cut, cut, Entry, ends, meet}
+use Rattle.rules.specs.Patch.{Cut, cut, ends, meet}
 use Rattle.rules.specs.Laws.Call.{in-limits}
 use Rattle.rules.specs.Laws.Entry.{cut-back}
 use Rattle.patch.specs.Old.{part, Inside}

@@ -46,6 +46,10 @@ pub through : {A B : Type 0} (m : Paper.Outcome A) (next : A → Paper.Outcome B
 through (accepted a) next b e = record { value = a; comes = refl; goes = e }
 through (refused q) next b e = absurd (accepted-refused e)
 
+-- what holds of an outcome holds of its value
+pub holds-at : {A : Type 0} {P : A → Type 0} {m : Paper.Outcome A} {a : A} → m ≡ accepted a → Holds P m → P a
+holds-at {A} {P} e h = holds-of (subst (Holds P) e h)
+
 -- ---- a word read
 
 pub record WordAt (t : Ty) (old : List ℤ) (from end : ℕ) (w : Read) : Type 0 where
@@ -145,7 +149,7 @@ module _ (bytes lists : List ℕ) (node : ℕ) (named : Named bytes lists node) 
       let place : from + 1 + w + w ≡ from + 1 + 2 * w = omega arith in
       let rest : two .value .rest ≡ part old (from + 1 + 2 * w) end = a .rest ∙ ap (λ (p : ℕ). part old p end) place in
       let x : shift e changes (part old (from + 1 + 2 * w) end) ≡ accepted (three .value) = ap (shift e changes) (sym rest) ∙ three .comes in
-      let sized : Sized e (part old (from + 1 + 2 * w) end) (three .value) = holds-of (subst (Holds (Sized e (part old (from + 1 + 2 * w) end))) x (shift-sized e changes (part old (from + 1 + 2 * w) end))) in
+      let sized : Sized e (part old (from + 1 + 2 * w) end) (three .value) = holds-at x (shift-sized e changes (part old (from + 1 + 2 * w) end)) in
       let low : from + 1 + 2 * w ≤ end = omega (arith, a .within) in
       subst (ForkAt e left) (accepted-of (three .goes)) (record {
         left-is = refl;
@@ -158,7 +162,7 @@ module _ (bytes lists : List ℕ) (node : ℕ) (named : Named bytes lists node) 
         moved = ap (λ (ws : List ℤ). movedAll types vs ws changes) (sym (h .snap .was)) ∙ h .snap .moved;
         second = a .standing;
         after = a .values;
-        near = λ n. holds-of (subst (Holds (λ y. Near (y .change))) x (shift-near e changes (part old (from + 1 + 2 * w) end) n));
+        near = λ n. holds-at x (shift-near e changes (part old (from + 1 + 2 * w) end) n);
         test = record-at (from + 1 + 2 * w) low e (three .value) sized;
       })
 
@@ -182,7 +186,7 @@ module _ (bytes lists : List ℕ) (node : ℕ) (named : Named bytes lists node) 
       let place = from + 1 + length vs in
       let two = through (operandOf e (one .value .word) changes (one .value .snap .rest)) _ c (one .goes) in
       let x : operandOf e (one .value .word) changes (part old place end) ≡ accepted (two .value) = ap (operandOf e (one .value .word) changes) (sym (h .snap .rest)) ∙ two .comes in
-      let sized : Sized e (part old place end) (two .value) = holds-of (subst (Holds (Sized e (part old place end))) x (operand-sized e (one .value .word) changes (part old place end))) in
+      let sized : Sized e (part old place end) (two .value) = holds-at x (operand-sized e (one .value .word) changes (part old place end)) in
       subst (CountAt e) (accepted-of (two .goes)) (record {
         below = h .below;
         word = h .word;
@@ -190,6 +194,6 @@ module _ (bytes lists : List ℕ) (node : ℕ) (named : Named bytes lists node) 
         first = h .snap .standing;
         was = h .snap .was;
         moved = h .snap .moved;
-        new-number = holds-of (subst (Holds (λ y. inType Ty.number (y .change) ≡ true)) x (operand-number e (one .value .word) changes (part old place end)));
+        new-number = holds-at x (operand-number e (one .value .word) changes (part old place end));
         count = record-at place (h .snap .within) e (two .value) sized;
       })

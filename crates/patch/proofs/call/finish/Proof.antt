@@ -4,6 +4,7 @@ use mathlib.Core.Path.{_≡_, ap, _∙_}
 use native.Mathlib.Omega.{arith}
 use lib.IntN.{natAbs}
 use borrow.Author.Tests.{not-true, not-false}
+use borrow.Author.Needs.{needs}
 use Rattle.rules.specs.Value.{at, padded, fit}
 use Rattle.rules.specs.Table.{variables, typesOf}
 use Rattle.rules.specs.Call.{limitOf}
@@ -12,11 +13,11 @@ use Rattle.patch.specs.Call.{Finishable}
 use Rattle.patch.proofs.Inputs.{types-inside}
 use Rattle.patch.proofs.Rooting.{cast-back, limited}
 use Rattle.patch.proofs.Finishing.{table-sized, room, few, ins, outs, inputs-summed, outputs-summed, inputs-made, outputs-made, outputs-front, outputs-long, outputs-refused, room-refused, completable, completed}
-use borrow.Author.Needs.{needs}
 use Rattle.patch.proofs.call.finish.Statement.{statement}
 use Rattle.patch.proofs.call.finish.Tie as tie
 
--- from each sum to the one before it, and to the function's start
+-- ---- the way back from place to place
+
 abbrev start : tie.After-pair → tie.Start
 start c = c .before .before
 
@@ -29,171 +30,95 @@ inputs c = c .before .before .before .before
 abbrev outputs : tie.After-fits2 → tie.After-sums2
 outputs c = c .before .before .before .before
 
+abbrev fitted : tie.After-limit-of → tie.After-fits2
+fitted c = c .before .before .before .before .before
+
+abbrev first : tie.After-fits2 → tie.Start
+first c = start (count (inputs (outputs c)))
+
+-- ---- what is known there
+
+abbrev Asked : tie.Start → Type 0
+Asked s = Finishable (s .args .t .now) (s .args .old .now) (s .args .t3) (s .args .reached) (s .args .out .now)
+
 counted : (c : tie.After-pair) → c .pair .result ≡ variables (start c .args .t .now)
 counted c = count-is (start c .args .t .now) (c .pair .ensures .0)
 
--- what was made of the old inputs and outputs
-inputs-are : (c : tie.After-sums) → let s = start (count c) in (h : Finishable (s .args .t .now) (s .args .old .now) (s .args .t3) (s .args .reached) (s .args .out .now)) → c .sums .result .values ≡ padded (ins (s .args .t .now) (s .args .old .now) (s .args .t3) (s .args .reached) (s .args .out .now) h)
-inputs-are c h = let s = start (count c) in inputs-made (s .args .t .now) (s .args .old .now) (s .args .t3) (s .args .reached) (s .args .out .now) h (count c .pair .result) (counted (count c)) (c .sums .ensures)
+-- what was made of the old inputs and outputs, and what the code is told of them
+inputs-are : (c : tie.After-sums) (h : Asked (start (count c))) → c .sums .result .values ≡ padded (ins h)
+inputs-are c h = inputs-made h (counted (count c)) (c .sums .ensures)
 
-outputs-are : (c : tie.After-sums2) → let s = start (count (inputs c)) in (h : Finishable (s .args .t .now) (s .args .old .now) (s .args .t3) (s .args .reached) (s .args .out .now)) → c .sums2 .result .values ≡ padded (outs (s .args .t .now) (s .args .old .now) (s .args .t3) (s .args .reached) (s .args .out .now) h)
-outputs-are c h = let p = count (inputs c) in let s = start p in outputs-made (s .args .t .now) (s .args .old .now) (s .args .t3) (s .args .reached) (s .args .out .now) h (p .pair .result) (counted p) (c .sums2 .ensures)
+outputs-are : (c : tie.After-sums2) (h : Asked (start (count (inputs c)))) → c .sums2 .result .values ≡ padded (outs h)
+outputs-are c h = outputs-made h (counted (count (inputs c))) (c .sums2 .ensures)
 
--- what the code is told of them
-answer : (c : tie.After-fits2) → let s = start (count (inputs (outputs c))) in (h : Finishable (s .args .t .now) (s .args .old .now) (s .args .t3) (s .args .reached) (s .args .out .now)) → c .fits2 .result ≡ fit (typesOf (s .args .t .now)) (outs (s .args .t .now) (s .args .old .now) (s .args .t3) (s .args .reached) (s .args .out .now) h)
+answer : (c : tie.After-fits2) (h : Asked (first c)) → c .fits2 .result ≡ fit (typesOf (first c .args .t .now)) (outs h)
 answer c h =
     let o = outputs c in
-    let p = count (inputs o) in
-    let s = start p in
-    c .fits2 .ensures ∙ ap (fit (typesOf (s .args .t .now))) (outputs-front (s .args .t .now) (s .args .old .now) (s .args .t3) (s .args .reached) (s .args .out .now) h (p .pair .result) (counted p) (outputs-are o h))
+    c .fits2 .ensures ∙ ap (fit (typesOf (first c .args .t .now))) (outputs-front h (counted (count (inputs o))) (outputs-are o h))
 
 -- the limit is the header's
-limit : (c : tie.After-limit-of) → c .limit-of .result ≡ natAbs (limitOf (start (count (inputs (outputs (c .before .before .before .before .before)))) .args .old .now))
+limit : (c : tie.After-limit-of) → c .limit-of .result ≡ natAbs (limitOf (first (fitted c) .args .old .now))
 unfolding limitOf
-limit c = c .limit-of .ensures ∙ cast-back (at (start (count (inputs (outputs (c .before .before .before .before .before)))) .args .old .now) 1) (search needs)
+limit c = c .limit-of .ensures ∙ cast-back (at (first (fitted c) .args .old .now) 1) (search needs)
 
-pair-requires : tie.Need-pair-requires
-pair-requires c κs = let s = c .before in omega (arith, table-sized (s .args .t .now) (s .args .old .now) (s .args .t3) (s .args .reached) (s .args .out .now) (s .pre) .whole)
+-- ---- the needs
 
-add-sums : tie.Need-add-sums
-add-sums c = search needs
-
-sub-sums : tie.Need-sub-sums
-sub-sums c = search needs
-
-part-sums-start : tie.Need-part-sums-start
-part-sums-start c = search needs
-
-part-sums-end : tie.Need-part-sums-end
-part-sums-end c = let s = start (c .before) in omega (arith, room (s .args .t .now) (s .args .old .now) (s .args .t3) (s .args .reached) (s .args .out .now) (s .pre), counted (c .before))
-
-sums-requires : tie.Need-sums-requires
-sums-requires c κs = let p = c .before .before .before .before in let s = start p in inputs-summed (s .args .t .now) (s .args .old .now) (s .args .t3) (s .args .reached) (s .args .out .now) (s .pre) (p .pair .result) (counted p)
-
-add-sums-2 : tie.Need-add-sums-2
-add-sums-2 c = search needs
-
-mul-sums : tie.Need-mul-sums
-mul-sums c = search needs
-
-add-sums-3 : tie.Need-add-sums-3
-add-sums-3 c = search needs
-
-mul-sums-2 : tie.Need-mul-sums-2
-mul-sums-2 c = search needs
-
-sub-sums-2 : tie.Need-sub-sums-2
-sub-sums-2 c = search needs
-
-part-sums-start-2 : tie.Need-part-sums-start-2
-part-sums-start-2 c = search needs
-
-part-sums-end-2 : tie.Need-part-sums-end-2
-part-sums-end-2 c = let p = count c in let s = start p in omega (arith, room (s .args .t .now) (s .args .old .now) (s .args .t3) (s .args .reached) (s .args .out .now) (s .pre), counted p)
-
-sums-requires-2 : tie.Need-sums-requires-2
-sums-requires-2 c κs = let p = c .before .before .before .before .before .before .before .before in let s = start p in outputs-summed (s .args .t .now) (s .args .old .now) (s .args .t3) (s .args .reached) (s .args .out .now) (s .pre) (p .pair .result) (counted p)
-
-sub-fits : tie.Need-sub-fits
-sub-fits c = search needs
-
-part-fits-start : tie.Need-part-fits-start
-part-fits-start c = search needs
-
-part-fits-end : tie.Need-part-fits-end
-part-fits-end c =
+outputs-end : tie.Need-part-fits-end
+outputs-end c =
     let o = c .before .before in
     let p = count (inputs o) in
-    let s = start p in
-    omega (arith, few (s .args .t .now) (s .args .old .now) (s .args .t3) (s .args .reached) (s .args .out .now) (s .pre), counted p, outputs-long (s .args .t .now) (s .args .old .now) (s .args .t3) (s .args .reached) (s .args .out .now) (s .pre) (outputs-are o (s .pre)))
+    let h = start p .pre in
+    omega (arith, few h, counted p, outputs-long h (outputs-are o h))
 
-fits-requires : tie.Need-fits-requires
-fits-requires c κs = let s = start (count (inputs (c .before .before .before))) in types-inside (s .args .t .now) (table-sized (s .args .t .now) (s .args .old .now) (s .args .t3) (s .args .reached) (s .args .out .now) (s .pre))
-
-refuse-requires : tie.Need-refuse-requires
-refuse-requires c κs = search needs
-
-same-length : tie.Need-same-length
-same-length c = search needs
-
-returns : tie.Need-returns
-returns c =
+outputs-refused-returns : tie.Need-returns
+outputs-refused-returns c =
     let k = c .before .before .before .before in
-    let s = start (count (inputs (outputs k))) in
-    λ h. outputs-refused (s .args .t .now) (s .args .old .now) (s .args .t3) (s .args .reached) (s .args .out .now) h (k .fits2 .result) (answer k h) (c .before .refuse .result) (c .before .refuse .last .0) (not-true _ (c .before .before .before .if1 .taken)) (c .before .refuse .ensures)
+    λ h. outputs-refused h (answer k h) (c .before .refuse .result) _ (not-true _ (c .before .before .before .if1 .taken)) (c .before .refuse .ensures)
 
-refuse-requires-2 : tie.Need-refuse-requires-2
-refuse-requires-2 c κs = search needs
-
-same-length-2 : tie.Need-same-length-2
-same-length-2 c = search needs
-
-returns-2 : tie.Need-returns-2
-returns-2 c =
+room-refused-returns : tie.Need-returns-2
+room-refused-returns c =
     let k = c .before .before .before .before .before .before in
-    let s = start (count (inputs (outputs k))) in
-    λ h. room-refused (s .args .t .now) (s .args .old .now) (s .args .t3) (s .args .reached) (s .args .out .now) h (k .fits2 .result) (answer k h) (c .before .refuse2 .result) (c .before .refuse2 .last .0) (not-false _ (c .before .before .before .before .before .if1 .left)) (c .before .before .before .if2 .taken) (c .before .refuse2 .ensures)
-
-shared-slice-copy-out-limit-of : tie.Need-shared-slice-copy-out-limit-of
-shared-slice-copy-out-limit-of c = let s = start (count (inputs (outputs (c .before .before .before)))) in omega (arith, room (s .args .t .now) (s .args .old .now) (s .args .t3) (s .args .reached) (s .args .out .now) (s .pre))
+    λ h. room-refused h (answer k h) (c .before .refuse2 .result) _ (not-false _ (c .before .before .before .before .before .if1 .left)) (c .before .before .before .if2 .taken) (c .before .refuse2 .ensures)
 
 limit-of-requires : tie.Need-limit-of-requires
-limit-of-requires c κs =
-    let s = start (count (inputs (outputs (c .before .before .before .before)))) in
-    between-back _ _ _ (search needs) ∙ limited (s .args .t .now) (s .args .old .now) (s .pre .rooted .given) (s .pre .rooted .start)
+limit-of-requires c κs = between-back _ _ _ (search needs) ∙ limited (first (c .before .before .before .before) .pre .rooted .start)
 
 complete-requires : tie.Need-complete-requires
 complete-requires c κs =
     let l = c .before in
-    let o = outputs (l .before .before .before .before .before) in
+    let o = outputs (fitted l) in
     let i = inputs o in
-    let s = start (count i) in
-    completable (s .args .t .now) (s .args .old .now) (s .args .t3) (s .args .reached) (s .args .out .now) (s .pre) (count i .pair .result) (l .limit-of .result) (i .sums .result) (o .sums2 .result) (counted (count i)) (limit l) (inputs-are i (s .pre)) (outputs-are o (s .pre)) (l .before .before .if2 .left)
+    let h = start (count i) .pre in
+    completable h (i .sums .result) (o .sums2 .result) (counted (count i)) (limit l) (inputs-are i h) (outputs-are o h) (l .before .before .if2 .left)
 
-same-length-3 : tie.Need-same-length-3
-same-length-3 c = search needs
-
-returns-3 : tie.Need-returns-3
-returns-3 c =
+returns : tie.Need-returns-3
+returns c =
     let l = c .before .before .before in
-    let k = l .before .before .before .before .before in
+    let k = fitted l in
     let o = outputs k in
     let i = inputs o in
-    let s = start (count i) in
     λ h.
-    completed (s .args .t .now) (s .args .old .now) (s .args .t3) (s .args .reached) (s .args .out .now) h (count i .pair .result) (l .limit-of .result) (i .sums .result) (o .sums2 .result) (counted (count i)) (limit l) (inputs-are i h) (outputs-are o h) (l .before .before .if2 .left)
-    (k .fits2 .result) (answer k h) (not-false _ (l .before .before .before .before .if1 .left)) (c .before .complete .result) (c .before .complete .last .1 .1 .1 .1 .1 .0) (c .before .complete .ensures)
+    completed h (i .sums .result) (o .sums2 .result) (counted (count i)) (limit l) (inputs-are i h) (outputs-are o h) (l .before .before .if2 .left)
+    (answer k h) (not-false _ (l .before .before .before .before .if1 .left)) (c .before .complete .result) _ (c .before .complete .ensures)
 
 pub finish-spec : {M : Type 1} → statement M
 finish-spec =
-    tie.close
-    (tie.spec
-    pair-requires
-    add-sums
-    sub-sums
-    part-sums-start
-    part-sums-end
-    sums-requires
-    add-sums-2
-    mul-sums
-    add-sums-3
-    mul-sums-2
-    sub-sums-2
-    part-sums-start-2
-    part-sums-end-2
-    sums-requires-2
-    sub-fits
-    part-fits-start
-    part-fits-end
-    fits-requires
-    refuse-requires
-    same-length
-    returns
-    refuse-requires-2
-    same-length-2
-    returns-2
-    shared-slice-copy-out-limit-of
+    tie.close (tie.spec
+    (λ c κs. omega (arith, table-sized (c .before .pre) .whole)) (λ c. search needs) (λ c. search needs)
+    (λ c. search needs) (λ c. omega (arith, room (start (c .before) .pre), counted (c .before)))
+    (λ c κs. let p = c .before .before .before .before in inputs-summed (start p .pre) (counted p))
+    (λ c. search needs) (λ c. search needs) (λ c. search needs) (λ c. search needs) (λ c. search needs)
+    (λ c. search needs) (λ c. let p = count c in omega (arith, room (start p .pre), counted p))
+    (λ c κs. let p = count (c .before .before .before) in outputs-summed (start p .pre) (counted p))
+    (λ c. search needs) (λ c. search needs)
+    outputs-end
+    (λ c κs. types-inside (table-sized (start (count (inputs (c .before .before .before))) .pre)))
+    (λ c κs. search needs) (λ c. search needs)
+    outputs-refused-returns
+    (λ c κs. search needs) (λ c. search needs)
+    room-refused-returns
+    (λ c. omega (arith, room (first (c .before .before .before) .pre)))
     limit-of-requires
     complete-requires
-    same-length-3
-    returns-3)
+    (λ c. search needs)
+    returns)

@@ -4,14 +4,13 @@ use mathlib.Core.Path.{_≡_, ap, _∙_}
 use Prim.Native.Nat.{ℕ, _-_}
 use native.Mathlib.Omega.{arith}
 use lib.IntN.{natAbs}
-use mir.Syntax.{w64}
-use mir.Val.{toZ, ofZ}
 use Rattle.rules.specs.Value.{at}
 use Rattle.rules.specs.Table.{variables, nodes}
 use Rattle.rules.specs.Call.{lengthOf, limitOf}
 use Rattle.run.specs.Laws.Fitting.{count-is, between-back}
 use Rattle.patch.proofs.Rooting.{cast-back, checked, room, limited, size-fits, some-node, header-inside, root-visitable, root-visits}
 use borrow.Author.Needs.{needs}
+use Rattle.patch.proofs.Changes.{kept}
 use Rattle.patch.proofs.call.rooted.Statement.{statement}
 use Rattle.patch.proofs.call.rooted.Tie as tie
 
@@ -37,43 +36,21 @@ node : (c : tie.After-pair2) → c .pair2 .result - 1 ≡ nodes (start (counted 
 unfolding nodes
 node c = ap (λ (i : ℕ). i - 1) (c .pair2 .ensures .0)
 
-end : (c : tie.After-visit-arg2) → let s = start (counted (limit (c .before))) in natAbs (toZ w64 (ofZ w64 (at (s .args .old .now) 0))) ≡ natAbs (lengthOf (s .args .old .now))
+end : (c : tie.After-visit-arg2) → let s = start (counted (limit (c .before))) in natAbs (kept (at (s .args .old .now) 0)) ≡ natAbs (lengthOf (s .args .old .now))
 unfolding lengthOf
 end c = cast-back (at (start (counted (limit (c .before))) .args .old .now) 0) (search needs)
 
-pair-requires : tie.Need-pair-requires
-pair-requires c κs = let s = c .before in omega (arith, header-inside (s .args .t .now) (s .args .old .now) (s .pre .given) (s .pre .start))
+-- ---- the needs
 
 mentions-requires : tie.Need-mentions-requires
-mentions-requires c κs = let s = start c in (s .pre .start .ready .program, checked (s .args .t .now) (s .args .old .now) (s .pre .given) (s .pre .start))
+mentions-requires c κs = let s = start c in (s .pre .start .ready .program, checked (s .pre .start))
 
-mul-place : tie.Need-mul-place
-mul-place c = search needs
+nodes-requires : tie.Need-pair-requires-2
+nodes-requires c κs = let s = start (c .before .before .before .before .before .before) in omega (arith, header-inside (s .pre .start))
 
-add-place : tie.Need-add-place
-add-place c = search needs
-
-shared-slice-copy-out-limit-of : tie.Need-shared-slice-copy-out-limit-of
-shared-slice-copy-out-limit-of c = let s = start (c .before .before) in omega (arith, room (s .args .t .now) (s .args .old .now) (s .pre .given) (s .pre .start))
-
-limit-of-requires : tie.Need-limit-of-requires
-limit-of-requires c κs = let s = start (c .before .before .before) in between-back _ _ _ (search needs) ∙ limited (s .args .t .now) (s .args .old .now) (s .pre .given) (s .pre .start)
-
-add-visit : tie.Need-add-visit
-add-visit c = search needs
-
-pair-requires-2 : tie.Need-pair-requires-2
-pair-requires-2 c κs = let s = start (c .before .before .before .before .before .before) in omega (arith, header-inside (s .args .t .now) (s .args .old .now) (s .pre .given) (s .pre .start))
-
-sub-visit : tie.Need-sub-visit
+some-root : tie.Need-sub-visit
 unfolding nodes
-sub-visit c = let s = start (counted (limit c)) in omega (arith, some-node (s .args .t .now) (s .args .old .now) (s .pre .given) (s .pre .start), c .pair2 .ensures .0)
-
-shared-slice-copy-out-visit : tie.Need-shared-slice-copy-out-visit
-shared-slice-copy-out-visit c = let s = start (counted (limit c)) in omega (arith, room (s .args .t .now) (s .args .old .now) (s .pre .given) (s .pre .start))
-
-cast-visit : tie.Need-cast-visit
-cast-visit c = let s = start (counted (limit (c .before))) in size-fits (s .args .t .now) (s .args .old .now) (s .pre .given) (s .pre .start) (search needs) (omega arith)
+some-root c = let s = start (counted (limit c)) in omega (arith, some-node (s .pre .start), c .pair2 .ensures .0)
 
 visit-requires : tie.Need-visit-requires
 visit-requires c κs =
@@ -81,11 +58,8 @@ visit-requires c κs =
     let l = limit n in
     let v = counted l in
     let s = start v in
-    root-visitable (s .args .t .now) (s .args .old .now) (s .pre .given) (s .pre .start) (s .args .changes .values) (s .pre .whole) (v .pair .result) (l .limit-of .result) (n .pair2 .result - 1) _ (count v) (left l) (node n) (end (c .before))
+    root-visitable (s .pre .start) (s .args .changes .values) (s .pre .whole) (v .pair .result) (l .limit-of .result) (n .pair2 .result - 1) _ (count v) (left l) (node n) (end (c .before))
     (l .before .before .before .mentions .result .lists) (l .before .before .before .mentions .ensures) (omega arith)
-
-same-length : tie.Need-same-length
-same-length c = search needs
 
 returns : tie.Need-returns
 returns c =
@@ -94,24 +68,21 @@ returns c =
     let v = counted l in
     let s = start v in
     λ h.
-    root-visits (s .args .t .now) (s .args .old .now) (h .given) (h .start) (s .args .changes .values) (h .whole) (v .pair .result) (l .limit-of .result) (n .pair2 .result - 1) _ (count v) (left l) (node n) (end (c .before .before .before))
+    root-visits (h .start) (s .args .changes .values) (h .whole) (v .pair .result) (l .limit-of .result) (n .pair2 .result - 1) _ (count v) (left l) (node n) (end (c .before .before .before))
     (c .before .visit .result) (s .args .out .now) _ (c .before .visit .ensures)
 
 pub rooted-spec : {M : Type 1} → statement M
 rooted-spec =
-    tie.close
-    (tie.spec
-    pair-requires
+    tie.close (tie.spec
+    (λ c κs. omega (arith, header-inside (c .before .pre .start)))
     mentions-requires
-    mul-place
-    add-place
-    shared-slice-copy-out-limit-of
-    limit-of-requires
-    add-visit
-    pair-requires-2
-    sub-visit
-    shared-slice-copy-out-visit
-    cast-visit
+    (λ c. search needs) (λ c. search needs) (λ c. omega (arith, room (start (c .before .before) .pre .start)))
+    (λ c κs. between-back _ _ _ (search needs) ∙ limited (start (c .before .before .before) .pre .start))
+    (λ c. search needs)
+    nodes-requires
+    some-root
+    (λ c. omega (arith, room (start (counted (limit c)) .pre .start)))
+    (λ c. size-fits (start (counted (limit (c .before))) .pre .start) (search needs) (omega arith))
     visit-requires
-    same-length
+    (λ c. search needs)
     returns)

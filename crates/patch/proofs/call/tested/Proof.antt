@@ -31,7 +31,7 @@ program : (c : tie.After-enum-told) → (p : Program) × (check (start (checked 
 program c =
     let k = checked c in
     let s = start k in
-    check-accepted (s .args .t .now) (s .args .old .now) (s .args .changes .now) (k .check .result) (c .enum-told .given .1) (k .check .ensures)
+    check-accepted (s .args .t .now) (s .args .old .now) (s .args .changes .now) (c .enum-told .given .1) (k .check .ensures)
 
 size : (c : tie.After-enum-told) → Sized (start (checked c) .args .t .now)
 size c = sized (start (checked c) .args .t .now) (program c .0) (program c .1)
@@ -41,13 +41,13 @@ headed : (c : tie.Else1) → let s = start (checked (c .before .before)) in (h :
 headed c =
     let k = c .before .before in
     let s = start (checked k) in
-    header-accepted (s .args .t .now) (s .args .old .now) (s .args .changes .now) (program k .0) (program k .1) (c .before .header-fits .result) (c .before .header-fits .ensures) (not-false _ (c .if1 .left))
+    header-accepted (s .args .t .now) (s .args .old .now) (s .args .changes .now) (program k .1) (c .before .header-fits .ensures) (not-false _ (c .if1 .left))
 
 all : (c : tie.Else1) → let s = start (checked (c .before .before)) in Whole (typesOf (s .args .t .now)) (s .args .old .now) (headed c .0)
 all c =
     let k = c .before .before in
     let s = start (checked k) in
-    whole (s .args .t .now) (s .args .old .now) (s .args .changes .now) (program k .0) (program k .1) (headed c .0) (headed c .1)
+    whole (s .args .t .now) (s .args .old .now) (s .args .changes .now) (program k .1) (headed c .1)
 
 -- the words that it names are there
 there : (c : tie.Else1) → let s = start (checked (c .before .before)) in 3 + 2 * variables (s .args .t .now) ≤ length (s .args .old .now)
@@ -61,83 +61,52 @@ answer : (c : tie.After-legal) → let s = start (checked (c .before .before .be
 answer c =
     let k = c .before .before .before .before .before in
     let s = start (checked k) in
-    c .legal .ensures ∙ ap (λ (ws : List ℤ). legal (typesOf (s .args .t .now)) ws (s .args .changes .now)) (inputs-are (s .args .t .now) (size k) (s .args .old .now) (c .before .before .pair .result) (count (c .before .before)))
+    c .legal .ensures ∙ ap (λ (ws : List ℤ). legal (typesOf (s .args .t .now)) ws (s .args .changes .now)) (inputs-are (size k) (s .args .old .now) (count (c .before .before)))
 
-check-requires : tie.Need-check-requires
-check-requires c κs = search needs
+-- ---- the needs
 
-enum-told : tie.Need-enum-told
-enum-told c = search needs
-
-enum-told-2 : tie.Need-enum-told-2
-enum-told-2 c = search needs
-
-returns : tie.Need-returns
-returns c =
+table-returns : tie.Need-returns
+table-returns c =
     let k = c .before .before in
     let s = start k in
-    check-refused (s .args .t .now) (s .args .old .now) (s .args .changes .now) (k .check .result) (c .enum-told2 .given .0 .0) (c .enum-told2 .given .1) (k .check .ensures)
+    check-refused (s .args .t .now) (s .args .old .now) (s .args .changes .now) (c .enum-told2 .given .1) (k .check .ensures)
 
-header-fits-requires : tie.Need-header-fits-requires
-header-fits-requires c κs = size c
-
-returns-2 : tie.Need-returns-2
-returns-2 c =
+header-returns : tie.Need-returns-2
+header-returns c =
     let k = c .before .before in
     let s = start (checked k) in
-    header-refused (s .args .t .now) (s .args .old .now) (s .args .changes .now) (program k .0) (program k .1) (c .before .header-fits .result) (c .before .header-fits .ensures) (not-true _ (c .if1 .taken))
-
-pair-requires : tie.Need-pair-requires
-pair-requires c κs = omega (arith, size (c .before .before) .whole)
-
-add-legal : tie.Need-add-legal
-add-legal c = search needs
-
-sub-legal : tie.Need-sub-legal
-sub-legal c = search needs
-
-part-legal-start : tie.Need-part-legal-start
-part-legal-start c = search needs
-
-part-legal-end : tie.Need-part-legal-end
-part-legal-end c = omega (arith, there (c .before), count c)
+    header-refused (s .args .t .now) (s .args .old .now) (s .args .changes .now) (program k .1) (c .before .header-fits .ensures) (not-true _ (c .if1 .taken))
 
 legal-requires : tie.Need-legal-requires
 legal-requires c κs =
     let e = c .before .before in
     let k = e .before .before in
     let s = start (checked k) in
-    (size k, ap (fit (typesOf (s .args .t .now))) (inputs-are (s .args .t .now) (size k) (s .args .old .now) (c .before .pair .result) (count (c .before))) ∙ all e .inputs)
+    (size k, ap (fit (typesOf (s .args .t .now))) (inputs-are (size k) (s .args .old .now) (count (c .before))) ∙ all e .inputs)
 
-returns-3 : tie.Need-returns-3
-returns-3 c =
+change-returns : tie.Need-returns-3
+change-returns c =
     let e = c .before .before .before .before in
     let k = e .before .before in
     let s = start (checked k) in
-    change-refused (s .args .t .now) (s .args .old .now) (s .args .changes .now) (program k .0) (program k .1) (headed e .0) (headed e .1) (c .before .legal .result) (answer (c .before)) (not-true _ (c .if2 .taken))
+    change-refused (s .args .t .now) (s .args .old .now) (s .args .changes .now) (program k .1) (headed e .1) (answer (c .before)) (not-true _ (c .if2 .taken))
 
-returns-4 : tie.Need-returns-4
-returns-4 c =
+returns : tie.Need-returns-4
+returns c =
     let e = c .before .before .before .before in
     let k = e .before .before in
     let s = start (checked k) in
-    all-passed (s .args .t .now) (s .args .old .now) (s .args .changes .now) (program k .0) (program k .1) (headed e .0) (headed e .1) (c .before .legal .result) (answer (c .before)) (not-false _ (c .if2 .left))
+    all-passed (s .args .t .now) (s .args .old .now) (s .args .changes .now) (program k .1) (headed e .1) (answer (c .before)) (not-false _ (c .if2 .left))
 
 pub tested-spec : {M : Type 1} → statement M
 tested-spec =
-    tie.close
-    (tie.spec
-    check-requires
-    enum-told
-    enum-told-2
-    returns
-    header-fits-requires
-    returns-2
-    pair-requires
-    add-legal
-    sub-legal
-    part-legal-start
-    part-legal-end
+    tie.close (tie.spec
+    (λ c κs. search needs) (λ c. search needs) (λ c. search needs)
+    table-returns
+    (λ c κs. size c)
+    header-returns
+    (λ c κs. omega (arith, size (c .before .before) .whole)) (λ c. search needs) (λ c. search needs) (λ c. search needs)
+    (λ c. omega (arith, there (c .before), count c))
     legal-requires
-    returns-3
-    returns-4)
+    change-returns
+    returns)

@@ -6,29 +6,28 @@ use Rattle.rules.specs.Value.{minus}
 use Rattle.patch.proofs.Changes.{number-type, truth-type, difference-fits, difference-kept, differ-kept}
 use Rattle.patch.proofs.change.minus.Statement.{statement}
 use Rattle.patch.proofs.change.minus.Tie as tie
-use Rattle.patch.proofs.change.minus.Reads as reads
-use Rattle.patch.proofs.change.minus.Lts as lts
-use Rattle.patch.proofs.change.differ.Reads as differ-reads
 
-sub-result : tie.Need-sub-result
-sub-result c = let s = c .before in difference-fits (s .args .new) (s .args .old) (s .pre .0) (s .pre .1)
+number-fits : tie.Need-sub-result
+number-fits c = let s = c .before in difference-fits (s .args .new) (s .args .old) (s .pre .0) (s .pre .1)
 
-returns : tie.Need-returns
+number-returns : tie.Need-returns
 unfolding minus
-returns c =
+number-returns c =
     let s = c .before in
     difference-kept (s .args .new) (s .args .old) (s .pre .0) (s .pre .1)
     ∙ sym (ap (λ t. minus t (s .args .new) (s .args .old)) (number-type (c .if1 .taken)))
 
-differ-requires : tie.Need-differ-requires
-differ-requires c κs = search needs
-
-returns-2 : tie.Need-returns-2
+truth-returns : tie.Need-returns-2
 unfolding minus
-returns-2 c =
+truth-returns c =
     let s = c .before .before in
     differ-kept (s .args .new) (s .args .old) (s .fits .new) (s .fits .old) (c .differ .ensures)
     ∙ sym (ap (λ t. minus t (s .args .new) (s .args .old)) (truth-type (s .args .kind) (c .before .if1 .left)))
 
 pub minus-spec : {M : Type 1} → statement M
-minus-spec = tie.close (tie.spec sub-result returns differ-requires returns-2)
+minus-spec =
+    tie.close (tie.spec
+    number-fits
+    number-returns
+    (λ c κs. search needs)
+    truth-returns)

@@ -8,19 +8,9 @@ use Rattle.run.specs.Laws.Numbers.{word}
 use Rattle.patch.proofs.Changes.{moved-out, moved-in}
 use Rattle.patch.proofs.change.moved.Statement.{statement}
 use Rattle.patch.proofs.change.moved.Tie as tie
-use Rattle.patch.proofs.change.moved.Reads as reads
-use Rattle.patch.proofs.change.moved.Lts as lts
-use Rattle.patch.proofs.change.plus.Reads as plus-reads
-use Rattle.run.proofs.input.in_type.Reads as in-type-reads
 
-plus-requires : tie.Need-plus-requires
-plus-requires c κs = search needs
-
-in-type-requires : tie.Need-in-type-requires
-in-type-requires c κs = search needs
-
-returns : tie.Need-returns
-returns c =
+outside-returns : tie.Need-returns
+outside-returns c =
     let tested = c .before in
     let summed = tested .before in
     let start = summed .before in
@@ -28,8 +18,8 @@ returns c =
     (summed .plus .result) (word _ (summed .plus .ok)) (summed .plus .ensures)
     (sym (tested .in-type .ensures) ∙ not-true _ (c .if1 .taken))
 
-returns-2 : tie.Need-returns-2
-returns-2 c =
+returns : tie.Need-returns-2
+returns c =
     let tested = c .before in
     let summed = tested .before in
     let start = summed .before in
@@ -38,4 +28,8 @@ returns-2 c =
     (sym (tested .in-type .ensures) ∙ not-false _ (c .if1 .left))
 
 pub moved-spec : {M : Type 1} → statement M
-moved-spec = tie.close (tie.spec plus-requires in-type-requires returns returns-2)
+moved-spec =
+    tie.close (tie.spec
+    (λ c κs. search needs) (λ c κs. search needs)
+    outside-returns
+    returns)

@@ -3,14 +3,12 @@
 use borrow.Author.Needs.{needs}
 use Rattle.patch.proofs.entry.ends.Statement.{statement}
 use Rattle.patch.proofs.entry.ends.Tie as tie
-use Rattle.patch.proofs.entry.ends.Reads as reads
-use Rattle.patch.proofs.entry.ends.Lts as lts
 
 returns : tie.Need-returns
 returns c = rw (c .if1 .taken)
 
-returns-2 : tie.Need-returns-2
-returns-2 c = search needs
-
 pub ends-spec : {M : Type 1} → statement M
-ends-spec = tie.close (tie.spec returns returns-2)
+ends-spec =
+    tie.close (tie.spec
+    returns
+    (λ c. search needs))

@@ -13,7 +13,8 @@ use Rattle.rules.specs.Laws.Parts.{numberOfKind}
 use Rattle.run.specs.Code.{computedAs}
 use Rattle.run.specs.Laws.Numbers.{both-plain, two-put, word-back}
 use Rattle.patch.specs.Change.{Near}
-use Rattle.patch.proofs.Recalling.{computed-near, settled-out, settled-in, near-plain, near-back}
+use Rattle.patch.proofs.Recalling.{computed-near, settled-out, settled-in}
+use Rattle.patch.proofs.Changes.{near-kept, kept-near}
 use Rattle.patch.proofs.expression.settle.Statement.{statement}
 use Rattle.patch.proofs.expression.settle.Tie as tie
 
@@ -40,29 +41,10 @@ near c =
     let s = start h in
     computed-near (s .pre .0 .o) (s .args .x) (s .args .y) (computes h (s .pre .0 .o) (s .pre .0 .is)) (c .result .given .1)
 
-put-requires : tie.Need-put-requires
-put-requires c κs = search needs
+-- ---- the needs
 
-add-put : tie.Need-add-put
-add-put c = search needs
-
-put-requires-2 : tie.Need-put-requires-2
-put-requires-2 c κs = search needs
-
-compute-requires : tie.Need-compute-requires
-compute-requires c κs = search needs
-
-enum-known-result : tie.Need-enum-known-result
-enum-known-result c = search needs
-
-enum-told : tie.Need-enum-told
-enum-told c = search needs
-
-same-length : tie.Need-same-length
-same-length c = search needs
-
-returns : tie.Need-returns
-returns c =
+refused-returns : tie.Need-returns
+refused-returns c =
     let h = c .before .before in
     let s = start h in
     record {
@@ -70,25 +52,19 @@ returns c =
       ends = λ o e. settled-out o (s .args .x) (s .args .y) (computes h o e) (s .args .was) (s .args .length) (c .enum-told .given .1);
     }
 
-given-requires : tie.Need-given-requires
-given-requires c κs = search needs
-
 minus-requires : tie.Need-minus-requires
 minus-requires c κs =
     let s = start (c .before .before .before .before) in
-    (near-back (c .before .before .result .given .0 .0) (near (c .before .before)), near-back (s .args .was) (s .pre .1 .1 .1 .0))
+    (kept-near (c .before .before .result .given .0 .0) (near (c .before .before)), kept-near (s .args .was) (s .pre .1 .1 .1 .0))
 
-same-length-2 : tie.Need-same-length-2
-same-length-2 c = search needs
-
-returns-2 : tie.Need-returns-2
-returns-2 c =
+returns : tie.Need-returns-2
+returns c =
     let r = c .before .before .before in
     let h = r .before .before in
     let s = start h in
     let was = s .args .was in
     let plain : minus (tyOf (c .before .given .result)) _ _ ≡ minus (tyOf (c .before .given .result)) (r .result .given .0 .0) was
-    = ap₂ {C = ℤ} (minus (tyOf (c .before .given .result))) (near-plain (r .result .given .0 .0) (near r)) (near-plain was (s .pre .1 .1 .1 .0)) in
+    = ap₂ {C = ℤ} (minus (tyOf (c .before .given .result))) (near-kept (r .result .given .0 .0) (near r)) (near-kept was (s .pre .1 .1 .1 .0)) in
     record {
       lays = puts h;
       ends = λ o e. settled-in o (s .args .x) (s .args .y) (computes h o e) was (s .args .length) (c .before .given .result) (r .result .given .1)
@@ -97,17 +73,11 @@ returns-2 c =
 
 pub settle-spec : {M : Type 1} → statement M
 settle-spec =
-    tie.close
-    (tie.spec
-    put-requires
-    add-put
-    put-requires-2
-    compute-requires
-    enum-known-result
-    enum-told
-    same-length
-    returns
-    given-requires
+    tie.close (tie.spec
+    (λ c κs. search needs) (λ c. search needs) (λ c κs. search needs) (λ c κs. search needs) (λ c. search needs)
+    (λ c. search needs) (λ c. search needs)
+    refused-returns
+    (λ c κs. search needs)
     minus-requires
-    same-length-2
-    returns-2)
+    (λ c. search needs)
+    returns)

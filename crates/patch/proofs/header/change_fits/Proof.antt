@@ -3,7 +3,7 @@
 use mathlib.Core.Path.{_≡_, sym, ap, ap₂, _∙_, subst}
 use lib.IntN.{ℤ, _+ℤ_}
 use mir.Syntax.{w64}
-use mir.Val.{SFits, toZ, ofZ}
+use mir.Val.{SFits}
 use mir.ValLaws.{toZ-ofZ}
 use borrow.Author.Tests.{not-true, not-false}
 use Rattle.rules.specs.Value.{inType}
@@ -11,14 +11,12 @@ use Rattle.rules.specs.Table.{tyOf}
 use Rattle.run.specs.Laws.Fitting.{between-back}
 use Rattle.patch.proofs.Inputs.{change-far, sum-fits, change-number, change-truth}
 use borrow.Author.Needs.{needs}
+use Rattle.patch.proofs.Changes.{kept}
 use Rattle.patch.proofs.header.change_fits.Statement.{statement}
 use Rattle.patch.proofs.header.change_fits.Tie as tie
 
-within-requires : tie.Need-within-requires
-within-requires c κs = search needs
-
-returns : tie.Need-returns
-returns c =
+far-returns : tie.Need-returns
+far-returns c =
     let s = c .before .before .before in
     change-far (s .args .kind) (s .args .input) (s .args .change) (s .pre) (c .before .before .if1 .taken)
     (sym (between-back _ _ (s .args .change) (s .fits .change)) ∙ sym (c .before .within .ensures) ∙ not-true _ (c .if2 .taken))
@@ -27,7 +25,7 @@ returns c =
 abbrev sum : (c : tie.Else2) → ℤ
 sum c = let s = c .before .before .before in s .args .input +ℤ s .args .change
 
-both : (c : tie.Else2) → let s = c .before .before .before in toZ w64 (ofZ w64 (s .args .input)) +ℤ toZ w64 (ofZ w64 (s .args .change)) ≡ sum c
+both : (c : tie.Else2) → let s = c .before .before .before in kept (s .args .input) +ℤ kept (s .args .change) ≡ sum c
 both c = let s = c .before .before .before in ap₂ {C = ℤ} (λ (x y : ℤ). x +ℤ y) (toZ-ofZ w64 _ (s .fits .input)) (toZ-ofZ w64 _ (s .fits .change))
 
 fit : (c : tie.Else2) → SFits w64 (sum c)
@@ -36,35 +34,24 @@ fit c =
     sum-fits (s .args .kind) (s .args .input) (s .args .change) (s .pre) (c .before .before .if1 .taken)
     (sym (between-back _ _ (s .args .change) (s .fits .change)) ∙ sym (c .before .within .ensures) ∙ not-false _ (c .if2 .left))
 
-add-in-type : tie.Need-add-in-type
-add-in-type c = subst (SFits w64) (sym (both c)) (fit c)
-
-in-type-requires : tie.Need-in-type-requires
-in-type-requires c κs = search needs
-
-returns-2 : tie.Need-returns-2
-returns-2 c =
+number-returns : tie.Need-returns-2
+number-returns c =
     let d = c .before in
     let s = d .before .before .before in
-    c .in-type .ensures ∙ ap (inType (tyOf 0)) (ap (λ (z : ℤ). toZ w64 (ofZ w64 z)) (both d) ∙ toZ-ofZ w64 (sum d) (fit d))
+    c .in-type .ensures ∙ ap (inType (tyOf 0)) (ap (λ (z : ℤ). kept z) (both d) ∙ toZ-ofZ w64 (sum d) (fit d))
     ∙ change-number (s .args .kind) (s .args .input) (s .args .change) (s .pre) (d .before .before .if1 .taken)
 
-within-requires-2 : tie.Need-within-requires-2
-within-requires-2 c κs = search needs
-
-returns-3 : tie.Need-returns-3
-returns-3 c =
+truth-returns : tie.Need-returns-3
+truth-returns c =
     let s = c .before .before in
     c .within2 .ensures ∙ between-back _ _ (s .args .change) (s .fits .change) ∙ change-truth (s .args .kind) (s .args .input) (s .args .change) (s .pre) (c .before .if1 .left)
 
 pub change-fits-spec : {M : Type 1} → statement M
 change-fits-spec =
-    tie.close
-    (tie.spec
-    within-requires
-    returns
-    add-in-type
-    in-type-requires
-    returns-2
-    within-requires-2
-    returns-3)
+    tie.close (tie.spec
+    (λ c κs. search needs)
+    far-returns
+    (λ c. subst (SFits w64) (sym (both c)) (fit c)) (λ c κs. search needs)
+    number-returns
+    (λ c κs. search needs)
+    truth-returns)

@@ -60,7 +60,7 @@ count p = count-is (bytes p) (p .pair .ensures .0)
 
 -- what each test says
 longs : (c : tie.Else1) → let p = count₁ c in true ≡ leb (3 + 2 * variables (bytes p)) (length (old p))
-longs c = let p = count₁ c in long-enough (bytes p) (start p .pre) (old p) (p .pair .result) (count p) (c .if1 .left)
+longs c = let p = count₁ c in long-enough (start p .pre) (old p) (count p) (c .if1 .left)
 
 sizes : (c : tie.After-within) → let p = count₁ (c .before .before) in c .within .result ≡ between (pos (3 + 2 * variables (bytes p))) (pos (length (old p))) (at (old p) 0)
 sizes c =
@@ -75,7 +75,7 @@ steps : (c : tie.After-within2) → let p = count₃ (c .before .before .before)
 steps c = c .within2 .ensures ∙ between-as refl (toZ-ofZ w64 _ (search needs)) (toZ-ofZ w64 _ (search needs))
 
 inputs : (c : tie.After-fits2) → let p = count₄ (c .before .before) in c .fits2 .result ≡ fit (typesOf (bytes p)) (inputsOf (typesOf (bytes p)) (old p))
-inputs c = let p = count₄ (c .before .before) in c .fits2 .ensures ∙ ap (fit (typesOf (bytes p))) (inputs-are (bytes p) (start p .pre) (old p) (p .pair .result) (count p))
+inputs c = let p = count₄ (c .before .before) in c .fits2 .ensures ∙ ap (fit (typesOf (bytes p))) (inputs-are (start p .pre) (old p) (count p))
 
 -- what the tests before a place have said
 sized : (c : tie.Else2) → let p = count₂ c in true ≡ between (pos (3 + 2 * variables (bytes p))) (pos (length (old p))) (at (old p) 0)
@@ -87,151 +87,64 @@ limited c = sym (not-false _ (c .if3 .left)) ∙ limits (c .before)
 stepped : (c : tie.Else4) → let p = count₄ c in true ≡ between (pos 1) (at (old p) 1) (at (old p) 2)
 stepped c = sym (not-false _ (c .if4 .left)) ∙ steps (c .before)
 
-pair-requires : tie.Need-pair-requires
-pair-requires c κs = search needs
+-- ---- the needs
 
-mul-least : tie.Need-mul-least
-mul-least c = search needs
-
-add-least : tie.Need-add-least
-add-least c = search needs
-
-returns : tie.Need-returns
-returns c =
+short-returns : tie.Need-returns
+short-returns c =
     let p = c .before in
-    header-by (bytes p) (start p .pre) (old p) false _ _ _ _ _ (short-not (bytes p) (start p .pre) (old p) (p .pair .result) (count p) (c .if1 .taken)) refl refl refl refl refl
+    header-by (start p .pre) (old p) false _ _ _ _ _ (short-not (start p .pre) (old p) (count p) (c .if1 .taken)) refl refl refl refl refl
 
-cast-within : tie.Need-cast-within
-cast-within c = search needs
-
-cast-within-2 : tie.Need-cast-within-2
-cast-within-2 c = search needs
-
-shared-slice-copy-out-within : tie.Need-shared-slice-copy-out-within
-shared-slice-copy-out-within c = search needs
-
-within-requires : tie.Need-within-requires
-within-requires c κs = search needs
-
-returns-2 : tie.Need-returns-2
-returns-2 c =
+size-returns : tie.Need-returns-2
+size-returns c =
     let a = c .before .before .before in
     let p = count₁ a in
-    header-by (bytes p) (start p .pre) (old p) true false _ _ _ _ (longs a) (sym (not-true _ (c .if2 .taken)) ∙ sizes (c .before)) refl refl refl refl
+    header-by (start p .pre) (old p) true false _ _ _ _ (longs a) (sym (not-true _ (c .if2 .taken)) ∙ sizes (c .before)) refl refl refl refl
 
-shared-slice-copy-out-in-limits : tie.Need-shared-slice-copy-out-in-limits
-shared-slice-copy-out-in-limits c = search needs
-
-in-limits-requires : tie.Need-in-limits-requires
-in-limits-requires c κs = search needs
-
-returns-3 : tie.Need-returns-3
-returns-3 c =
+limit-returns : tie.Need-returns-3
+limit-returns c =
     let d = c .before .before .before in
     let p = count₂ d in
-    header-by (bytes p) (start p .pre) (old p) true true false _ _ _ (longs (sliced d)) (sized d) (sym (not-true _ (c .if3 .taken)) ∙ limits (c .before)) refl refl refl
+    header-by (start p .pre) (old p) true true false _ _ _ (longs (sliced d)) (sized d) (sym (not-true _ (c .if3 .taken)) ∙ limits (c .before)) refl refl refl
 
-shared-slice-copy-out-within-2 : tie.Need-shared-slice-copy-out-within-2
-shared-slice-copy-out-within-2 c = search needs
-
-shared-slice-copy-out-within-3 : tie.Need-shared-slice-copy-out-within-3
-shared-slice-copy-out-within-3 c = search needs
-
-within-requires-2 : tie.Need-within-requires-2
-within-requires-2 c κs = search needs
-
-returns-4 : tie.Need-returns-4
-returns-4 c =
+steps-returns : tie.Need-returns-4
+steps-returns c =
     let e = c .before .before .before .before in
     let d = bounded e in
     let p = count₃ e in
-    header-by (bytes p) (start p .pre) (old p) true true true false _ _ (longs (sliced d)) (sized d) (limited e) (sym (not-true _ (c .if4 .taken)) ∙ steps (c .before)) refl refl
+    header-by (start p .pre) (old p) true true true false _ _ (longs (sliced d)) (sized d) (limited e) (sym (not-true _ (c .if4 .taken)) ∙ steps (c .before)) refl refl
 
-add-fits : tie.Need-add-fits
-add-fits c = search needs
-
-sub-fits : tie.Need-sub-fits
-sub-fits c = search needs
-
-part-fits-start : tie.Need-part-fits-start
-part-fits-start c = search needs
-
-part-fits-end : tie.Need-part-fits-end
-part-fits-end c = search needs
-
-fits-requires : tie.Need-fits-requires
-fits-requires c κs =
-    let p = count₄ (c .before) in
-    types-inside (bytes p) (start p .pre)
-
-returns-5 : tie.Need-returns-5
-returns-5 c =
+inputs-returns : tie.Need-returns-5
+inputs-returns c =
     let g = c .before .before .before in
     let e = fueled g in
     let d = bounded e in
     let p = count₄ g in
-    header-by (bytes p) (start p .pre) (old p) true true true true false _ (longs (sliced d)) (sized d) (limited e) (stepped g) (sym (not-true _ (c .if5 .taken)) ∙ inputs (c .before)) refl
+    header-by (start p .pre) (old p) true true true true false _ (longs (sliced d)) (sized d) (limited e) (stepped g) (sym (not-true _ (c .if5 .taken)) ∙ inputs (c .before)) refl
 
-add-fits-2 : tie.Need-add-fits-2
-add-fits-2 c = search needs
-
-mul-fits : tie.Need-mul-fits
-mul-fits c = search needs
-
-sub-fits-2 : tie.Need-sub-fits-2
-sub-fits-2 c = search needs
-
-part-fits-start-2 : tie.Need-part-fits-start-2
-part-fits-start-2 c = search needs
-
-part-fits-end-2 : tie.Need-part-fits-end-2
-part-fits-end-2 c = search needs
-
-fits-requires-2 : tie.Need-fits-requires-2
-fits-requires-2 c κs =
-    let p = count₄ (c .before .before .before .before) in
-    types-inside (bytes p) (start p .pre)
-
-returns-6 : tie.Need-returns-6
-returns-6 c =
+returns : tie.Need-returns-6
+returns c =
     let k = c .before .before in
     let g = k .before .before .before in
     let e = fueled g in
     let d = bounded e in
     let p = count₄ g in
-    header-by (bytes p) (start p .pre) (old p) true true true true true (c .fits3 .result) (longs (sliced d)) (sized d) (limited e) (stepped g) (sym (not-false _ (k .if5 .left)) ∙ inputs (k .before))
-    (c .fits3 .ensures ∙ ap (fit (typesOf (bytes p))) (outputs-are (bytes p) (start p .pre) (old p) (p .pair .result) (count p)))
+    header-by (start p .pre) (old p) true true true true true (c .fits3 .result) (longs (sliced d)) (sized d) (limited e) (stepped g) (sym (not-false _ (k .if5 .left)) ∙ inputs (k .before))
+    (c .fits3 .ensures ∙ ap (fit (typesOf (bytes p))) (outputs-are (start p .pre) (old p) (count p)))
 
 pub header-fits-spec : {M : Type 1} → statement M
 header-fits-spec =
-    tie.close
-    (tie.spec
-    pair-requires
-    mul-least
-    add-least
-    returns
-    cast-within
-    cast-within-2
-    shared-slice-copy-out-within
-    within-requires
-    returns-2
-    shared-slice-copy-out-in-limits
-    in-limits-requires
-    returns-3
-    shared-slice-copy-out-within-2
-    shared-slice-copy-out-within-3
-    within-requires-2
-    returns-4
-    add-fits
-    sub-fits
-    part-fits-start
-    part-fits-end
-    fits-requires
-    returns-5
-    add-fits-2
-    mul-fits
-    sub-fits-2
-    part-fits-start-2
-    part-fits-end-2
-    fits-requires-2
-    returns-6)
+    tie.close (tie.spec
+    (λ c κs. search needs) (λ c. search needs) (λ c. search needs)
+    short-returns
+    (λ c. search needs) (λ c. search needs) (λ c. search needs) (λ c κs. search needs)
+    size-returns
+    (λ c. search needs) (λ c κs. search needs)
+    limit-returns
+    (λ c. search needs) (λ c. search needs) (λ c κs. search needs)
+    steps-returns
+    (λ c. search needs) (λ c. search needs) (λ c. search needs) (λ c. search needs)
+    (λ c κs. types-inside (start (count₄ (c .before)) .pre))
+    inputs-returns
+    (λ c. search needs) (λ c. search needs) (λ c. search needs) (λ c. search needs) (λ c. search needs)
+    (λ c κs. types-inside (start (count₄ (c .before .before .before .before)) .pre))
+    returns)

@@ -38,10 +38,10 @@ head c = c .before .before .before .before .before
 
 -- the types' bytes and the inputs are there
 inside : (h : tie.At-loop Inv-loop μ-loop) → 16 + h .before .before .pair .result ≤ length (start h .args .t .now)
-inside h = omega (arith, count (h .before .before), header-long (start h .args .t .now) (types-inside (start h .args .t .now) (start h .pre .0)))
+inside h = omega (arith, count (h .before .before), header-long (start h .args .t .now) (types-inside (start h .pre .0)))
 
 each : (h : tie.At-loop Inv-loop μ-loop) → length (start h .args .inputs .now) ≡ h .before .before .pair .result
-each h = inputs-long (start h .args .t .now) (start h .pre .0) (start h .args .inputs .now) (start h .pre .1) ∙ sym (count (h .before .before))
+each h = inputs-long (start h .pre .0) (start h .args .inputs .now) (start h .pre .1) ∙ sym (count (h .before .before))
 
 -- what a turn is told of its change
 answer : (c : tie.After-change-fits Inv-loop μ-loop)
@@ -49,82 +49,45 @@ answer : (c : tie.After-change-fits Inv-loop μ-loop)
 answer c =
     sym (c .change-fits .ensures ∙ ap₂ {C = Bool} (legalChange (typeBy (start (head c) .args .t .now) (head c .loop .i))) (toZ-ofZ w64 _ (search needs)) (toZ-ofZ w64 _ (search needs)))
 
-pair-requires : tie.Need-pair-requires Inv-loop μ-loop
-pair-requires c κs = omega (arith, header-long (c .before .args .t .now) (types-inside (c .before .args .t .now) (c .before .pre .0)))
+-- ---- the needs
 
-returns : tie.Need-returns Inv-loop μ-loop
-returns c =
+count-returns : tie.Need-returns Inv-loop μ-loop
+count-returns c =
     let s = c .before .before .before in
-    legal-none (s .args .t .now) (s .pre .0) (s .args .inputs .now) (s .pre .1) (s .args .changes .now) (λ e. c .if1 .taken (e ∙ sym (count (c .before))))
-
-loop-holds : tie.Need-loop-holds Inv-loop μ-loop
-loop-holds c = (omega arith, below-none _)
-
-add-change-fits : tie.Need-add-change-fits Inv-loop μ-loop
-add-change-fits c = omega arith
-
-shared-slice-read-change-fits : tie.Need-shared-slice-read-change-fits Inv-loop μ-loop
-shared-slice-read-change-fits c = omega (arith, inside (c .before .before))
-
-mul-change-fits : tie.Need-mul-change-fits Inv-loop μ-loop
-mul-change-fits c = omega arith
-
-shared-slice-copy-out-change-fits : tie.Need-shared-slice-copy-out-change-fits Inv-loop μ-loop
-shared-slice-copy-out-change-fits c = omega (arith, each (c .before .before))
-
-mul-change-fits-2 : tie.Need-mul-change-fits-2 Inv-loop μ-loop
-mul-change-fits-2 c = omega arith
-
-shared-slice-copy-out-change-fits-2 : tie.Need-shared-slice-copy-out-change-fits-2 Inv-loop μ-loop
-shared-slice-copy-out-change-fits-2 c = omega arith
+    legal-none (s .pre .0) (s .args .inputs .now) (s .pre .1) (s .args .changes .now) (λ e. c .if1 .taken (e ∙ sym (count (c .before))))
 
 change-fits-requires : tie.Need-change-fits-requires Inv-loop μ-loop
 change-fits-requires c κs =
     let h = c .before .before .before .before in
     let s = start h in
     ap (inType (typeBy (s .args .t .now) (h .loop .i))) (toZ-ofZ w64 _ (search needs))
-    ∙ input-in (s .args .t .now) (s .pre .0) (s .args .inputs .now) (s .pre .1) (h .loop .i) (omega (arith, count (h .before .before)))
+    ∙ input-in (s .pre .0) (s .args .inputs .now) (s .pre .1) (h .loop .i) (omega (arith, count (h .before .before)))
 
-returns-2 : tie.Need-returns-2 Inv-loop μ-loop
-returns-2 c =
+wrong-returns : tie.Need-returns-2 Inv-loop μ-loop
+wrong-returns c =
     let h = head (c .before) in
     let s = start h in
-    legal-not (s .args .t .now) (s .pre .0) (s .args .inputs .now) (s .pre .1) (s .args .changes .now) (h .loop .i) (omega (arith, count (h .before .before)))
+    legal-not (s .pre .0) (s .args .inputs .now) (s .pre .1) (s .args .changes .now) (h .loop .i) (omega (arith, count (h .before .before)))
     (answer (c .before) ∙ not-true _ (c .if2 .taken))
-
-add-i : tie.Need-add-i Inv-loop μ-loop
-add-i c = omega arith
-
-loop-less : tie.Need-loop-less Inv-loop μ-loop
-loop-less c = omega arith
 
 loop-again : tie.Need-loop-again Inv-loop μ-loop
 loop-again c = (omega arith, below-more _ _ (head (c .before) .loop .inv .1) (answer (c .before) ∙ not-false _ (c .if2 .left)))
 
-returns-3 : tie.Need-returns-3 Inv-loop μ-loop
-returns-3 c =
+returns : tie.Need-returns-3 Inv-loop μ-loop
+returns c =
     let s = start (c .before) in
     let all = count (c .before .before .before) in
-    legal-all (s .args .t .now) (s .pre .0) (s .args .inputs .now) (s .pre .1) (s .args .changes .now) (c .before .before .if1 .left ∙ all) (λ k below. c .before .loop .inv .1 k (omega arith))
+    legal-all (s .pre .0) (s .args .inputs .now) (s .pre .1) (s .args .changes .now) (c .before .before .if1 .left ∙ all) (λ k below. c .before .loop .inv .1 k (omega arith))
 
 pub legal-spec : {M : Type 1} → statement M
 legal-spec =
-    tie.close
-    (tie.spec
-    Inv-loop
-    μ-loop
-    pair-requires
-    returns
-    loop-holds
-    add-change-fits
-    shared-slice-read-change-fits
-    mul-change-fits
-    shared-slice-copy-out-change-fits
-    mul-change-fits-2
-    shared-slice-copy-out-change-fits-2
+    tie.close (tie.spec Inv-loop μ-loop
+    (λ c κs. omega (arith, header-long (c .before .args .t .now) (types-inside (c .before .pre .0))))
+    count-returns
+    (λ c. (omega arith, below-none _)) (λ c. omega arith) (λ c. omega (arith, inside (c .before .before)))
+    (λ c. omega arith) (λ c. omega (arith, each (c .before .before))) (λ c. omega arith) (λ c. omega arith)
     change-fits-requires
-    returns-2
-    add-i
-    loop-less
+    wrong-returns
+    (λ c. omega arith) (λ c. omega arith)
     loop-again
-    returns-3)
+    returns)

@@ -12,8 +12,9 @@ use borrow.Author.Needs.{needs}
 use Rattle.rules.specs.Value.{zeros, mostVariables, at, plus, plusAll}
 use Rattle.rules.specs.Table.{variables, typesOf}
 use Rattle.run.specs.Laws.Fitting.{typeBy, count-is, header-long}
-use Rattle.patch.proofs.Inputs.{near-back, types-inside, inputs-long, all-long, near-both, sum-at}
+use Rattle.patch.proofs.Inputs.{types-inside, inputs-long, all-long, near-both, sum-at}
 use Rattle.run.specs.Laws.Laying.{Laid, laid-none, laid-by, laid-all, laid-padded}
+use Rattle.patch.proofs.Changes.{kept-near}
 use Rattle.patch.proofs.header.sums.Statement.{statement}
 use Rattle.patch.proofs.header.sums.Tie as tie
 
@@ -36,58 +37,27 @@ head c = c .before .before .before .before .before
 
 -- the types' bytes and the words are there, and the variables are few
 inside : (h : tie.At-loop Inv-loop μ-loop) → 16 + h .before .pair .result ≤ length (start h .args .t .now)
-inside h = omega (arith, count (h .before), header-long (start h .args .t .now) (types-inside (start h .args .t .now) (start h .pre .sized)))
+inside h = omega (arith, count (h .before), header-long (start h .args .t .now) (types-inside (start h .pre .sized)))
 
 each : (h : tie.At-loop Inv-loop μ-loop) → length (start h .args .words .now) ≡ h .before .pair .result
-each h = inputs-long (start h .args .t .now) (start h .pre .sized) (start h .args .words .now) (start h .pre .fits) ∙ sym (count (h .before))
+each h = inputs-long (start h .pre .sized) (start h .args .words .now) (start h .pre .fits) ∙ sym (count (h .before))
 
 small : (h : tie.At-loop Inv-loop μ-loop) → h .before .pair .result ≤ 32
 small h = omega (arith, count (h .before), start h .pre .sized .few)
 
-pair-requires : tie.Need-pair-requires Inv-loop μ-loop
-pair-requires c κs = omega (arith, header-long (c .before .args .t .now) (types-inside (c .before .args .t .now) (c .before .pre .sized)))
+-- ---- the needs
 
 loop-holds : tie.Need-loop-holds Inv-loop μ-loop
 unfolding zeros mostVariables
 loop-holds c =
     (omega arith, laid-none)
 
-add-plus : tie.Need-add-plus Inv-loop μ-loop
-add-plus c = omega arith
-
-shared-slice-read-plus : tie.Need-shared-slice-read-plus Inv-loop μ-loop
-shared-slice-read-plus c = omega (arith, inside (c .before .before))
-
-mul-plus : tie.Need-mul-plus Inv-loop μ-loop
-mul-plus c = omega arith
-
-shared-slice-copy-out-plus : tie.Need-shared-slice-copy-out-plus Inv-loop μ-loop
-shared-slice-copy-out-plus c = omega (arith, each (c .before .before))
-
-mul-plus-2 : tie.Need-mul-plus-2 Inv-loop μ-loop
-mul-plus-2 c = omega arith
-
-element-copy-out-plus : tie.Need-element-copy-out-plus Inv-loop μ-loop
-element-copy-out-plus c = omega (arith, small (c .before .before .before))
-
 plus-requires : tie.Need-plus-requires Inv-loop μ-loop
 plus-requires c κs =
     let h = c .before .before .before .before in
     let s = start h in
-    let both = near-both (s .args .t .now) (s .args .words .now) (s .args .changes .now) (s .pre) (h .loop .i) in
-    (near-back (at (s .args .words .now) (h .loop .i)) (both .0), near-back (at (s .args .changes .now) (h .loop .i)) (both .1))
-
-mul-values : tie.Need-mul-values Inv-loop μ-loop
-mul-values c = omega arith
-
-array-set-from-values : tie.Need-array-set-from-values Inv-loop μ-loop
-array-set-from-values c = omega (arith, small (head c))
-
-add-i : tie.Need-add-i Inv-loop μ-loop
-add-i c = omega arith
-
-loop-less : tie.Need-loop-less Inv-loop μ-loop
-loop-less c = omega arith
+    let both = near-both (s .pre) (h .loop .i) in
+    (kept-near (at (s .args .words .now) (h .loop .i)) (both .0), kept-near (at (s .args .changes .now) (h .loop .i)) (both .1))
 
 loop-again : tie.Need-loop-again Inv-loop μ-loop
 loop-again c =
@@ -97,8 +67,8 @@ loop-again c =
     let below : h .loop .i < variables (s .args .t .now) = omega (arith, count (h .before)) in
     let word : c .plus .result ≡ at all (h .loop .i) =
     c .plus .ensures ∙ ap₂ {C = ℤ} (plus (typeBy (s .args .t .now) (h .loop .i))) (toZ-ofZ w64 _ (search needs)) (toZ-ofZ w64 _ (search needs))
-    ∙ sum-at (s .args .t .now) (s .args .words .now) (s .args .changes .now) (s .pre) (h .loop .i) below in
-    let more = laid-by (pos 0) (h .loop .inv .1) (omega (arith, all-long (s .args .t .now) (s .args .words .now) (s .args .changes .now) (s .pre))) word (search needs) refl in
+    ∙ sum-at (s .pre) (h .loop .i) below in
+    let more = laid-by (pos 0) (h .loop .inv .1) (omega (arith, all-long (s .pre))) word (search needs) refl in
     (omega arith, rw (zero-add (h .loop .i)) at more)
 
 returns : tie.Need-returns Inv-loop μ-loop
@@ -107,27 +77,18 @@ returns c =
     let h = c .before in
     let s = start h in
     let all = plusAll (typesOf (s .args .t .now)) (s .args .words .now) (s .args .changes .now) in
-    let long = all-long (s .args .t .now) (s .args .words .now) (s .args .changes .now) (s .pre) in
+    let long = all-long (s .pre) in
     laid-all (h .loop .inv .1) (omega (arith, long, count (h .before), c .loop-test .left)) ∙ laid-padded all (omega (arith, long, s .pre .sized .few))
 
 pub sums-spec : {M : Type 1} → statement M
 sums-spec =
-    tie.close
-    (tie.spec
-    Inv-loop
-    μ-loop
-    pair-requires
+    tie.close (tie.spec Inv-loop μ-loop
+    (λ c κs. omega (arith, header-long (c .before .args .t .now) (types-inside (c .before .pre .sized))))
     loop-holds
-    add-plus
-    shared-slice-read-plus
-    mul-plus
-    shared-slice-copy-out-plus
-    mul-plus-2
-    element-copy-out-plus
+    (λ c. omega arith) (λ c. omega (arith, inside (c .before .before))) (λ c. omega arith)
+    (λ c. omega (arith, each (c .before .before))) (λ c. omega arith)
+    (λ c. omega (arith, small (c .before .before .before)))
     plus-requires
-    mul-values
-    array-set-from-values
-    add-i
-    loop-less
+    (λ c. omega arith) (λ c. omega (arith, small (head c))) (λ c. omega arith) (λ c. omega arith)
     loop-again
     returns)

@@ -6,9 +6,8 @@ use mathlib.Core.List.{List}
 use lib.IntN.{ℤ}
 use borrow.Author.Needs.{needs}
 use Rattle.rules.specs.Laws.Parts.{nodeAt}
-use Rattle.patch.proofs.Nodes.{node-bytes}
+use Rattle.patch.proofs.Nodes.{node-bytes, read-node}
 use Rattle.patch.proofs.Shifts.{Got}
-use Rattle.patch.proofs.Heads.{field-is}
 use Rattle.patch.proofs.Assigns.{its, shifts, variable-low, value-asked, assign-refused, value-got, value-inside, assign-broken, assign-answer}
 use Rattle.patch.proofs.parts.assign.Statement.{statement}
 use Rattle.patch.proofs.parts.assign.Tie as tie
@@ -27,7 +26,7 @@ abbrev laid : tie.After-shift → List ℤ
 laid c = c .shift .last .1 .1 .1 .1 .1 .1 .1 .0
 
 value : (c : tie.After-child-a) → let s = start c in c .child-a .result ≡ nodeAt (s .args .t .now) (s .args .node) .a
-value c = field-is (start c .pre) (λ n. n .a) (c .child-a .ensures)
+value c = read-node (start c .pre .known) (λ n. n .a) (c .child-a .ensures)
 
 -- the change, with its record
 changed : (c : tie.After-known-told2)
@@ -40,92 +39,56 @@ changed c =
     let s = start (child-of x) in
     value-got (s .pre) (value (child-of x)) (x .shift .result) (s .args .out .now) (laid x) (x .shift .ensures) (c .before .result2 .given .1)
 
-mul-place : tie.Need-mul-place
-mul-place c = omega (arith, node-bytes (c .before .pre .known))
-
-add-place : tie.Need-add-place
-add-place c = omega (arith, node-bytes (c .before .pre .known))
-
-child-a-requires : tie.Need-child-a-requires
-child-a-requires c κs = node-bytes (c .before .before .pre .known)
+-- ---- the needs
 
 shift-requires : tie.Need-shift-requires
 shift-requires c κs = let i = c .before .before .before in value-asked (start i .pre) (value i)
 
-enum-known-result : tie.Need-enum-known-result
-enum-known-result c = search needs
-
-stopped-requires : tie.Need-stopped-requires
-stopped-requires c κs = search needs
-
-enum-known-result-2 : tie.Need-enum-known-result-2
-enum-known-result-2 c = search needs
-
-add-if1 : tie.Need-add-if1
-add-if1 c =
+change-inside : tie.Need-add-if1
+change-inside c =
     let s = start (child-of (shift-of c)) in
     omega (arith, value-inside (s .pre) (changed c), s .fits .end .fits)
 
-stopped-requires-2 : tie.Need-stopped-requires-2
-stopped-requires-2 c κs = search needs
-
-same-length : tie.Need-same-length
-same-length c = search needs
-
-returns : tie.Need-returns
-returns c =
+broken-returns : tie.Need-returns
+broken-returns c =
     let t = c .before in
     let s = start (child-of (shift-of (t .before))) in
     assign-broken (s .pre) (changed (t .before)) (t .if1 .taken) (c .stopped2 .result) (c .stopped2 .ensures) _
-
-tag-requires : tie.Need-tag-requires
-tag-requires c κs = node-bytes (start (child-of (shift-of (c .before))) .pre .known)
 
 assigned-requires : tie.Need-assigned-requires
 assigned-requires c κs =
     let t = c .before .before in
     let s = start (child-of (shift-of t)) in
     let h = s .pre in
-    (variable-low h (field-is h (λ n. n .tag) (c .tag .ensures)), omega (arith, value-inside h (changed t), h .sound .place, h .sound .inside .ends))
+    (variable-low h (read-node (h .known) (λ n. n .tag) (c .tag .ensures)), omega (arith, value-inside h (changed t), h .sound .place, h .sound .inside .ends))
 
-same-length-2 : tie.Need-same-length-2
-same-length-2 c = search needs
-
-returns-2 : tie.Need-returns-2
-returns-2 c =
+refused-returns : tie.Need-returns-2
+refused-returns c =
     let t = c .before .before in
     let x = t .before .before .before in
     let s = start (child-of x) in
     assign-refused (s .pre) (value (child-of x)) (x .shift .result) (s .args .out .now) (laid x) (x .shift .ensures) (t .result .given .1) (c .stopped .result) (c .stopped .ensures) _
 
-same-length-3 : tie.Need-same-length-3
-same-length-3 c = search needs
-
-returns-3 : tie.Need-returns-3
-returns-3 c =
+returns : tie.Need-returns-3
+returns c =
     let g = c .before in
     let e = g .before in
     let s = start (child-of (shift-of (e .before))) in
-    assign-answer (s .pre) (changed (e .before)) (e .if1 .left) (field-is (s .pre) (λ n. n .tag) (g .tag .ensures)) (c .assigned .result) (c .assigned .ensures)
+    assign-answer (s .pre) (changed (e .before)) (e .if1 .left) (read-node (s .pre .known) (λ n. n .tag) (g .tag .ensures)) (c .assigned .result) (c .assigned .ensures)
 
 pub assign-spec : {M : Type 1} → statement M
 assign-spec =
-    tie.close
-    (tie.spec
-    mul-place
-    add-place
-    child-a-requires
+    tie.close (tie.spec
+    (λ c. omega (arith, node-bytes (c .before .pre .known))) (λ c. omega (arith, node-bytes (c .before .pre .known)))
+    (λ c κs. node-bytes (c .before .before .pre .known))
     shift-requires
-    enum-known-result
-    stopped-requires
-    enum-known-result-2
-    add-if1
-    stopped-requires-2
-    same-length
-    returns
-    tag-requires
+    (λ c. search needs) (λ c κs. search needs) (λ c. search needs)
+    change-inside
+    (λ c κs. search needs) (λ c. search needs)
+    broken-returns
+    (λ c κs. node-bytes (start (child-of (shift-of (c .before))) .pre .known))
     assigned-requires
-    same-length-2
-    returns-2
-    same-length-3
-    returns-3)
+    (λ c. search needs)
+    refused-returns
+    (λ c. search needs)
+    returns)

@@ -8,8 +8,8 @@ use borrow.Author.Tests.{not-true, not-false}
 use borrow.Author.Needs.{needs}
 use Rattle.rules.specs.Value.{Ty}
 use Rattle.rules.specs.Laws.Parts.{nodeAt}
-use Rattle.patch.proofs.Nodes.{node-bytes, row-known}
-use Rattle.patch.proofs.Heads.{field-is, head-asked, HeadGot, head-got}
+use Rattle.patch.proofs.Nodes.{node-bytes, row-known, read-node}
+use Rattle.patch.proofs.Heads.{head-asked, HeadGot, head-got}
 use Rattle.patch.proofs.Counts.{number-byte, count-headless, count-below, count-number, count-asked, count-answer}
 use Rattle.patch.proofs.parts.count.Statement.{statement}
 use Rattle.patch.proofs.parts.count.Tie as tie
@@ -38,49 +38,18 @@ first c =
     head-got (s .pre) 0 Ty.number number-byte (s .args .out .now) (laid p) _ (p .head-fits .ensures) (not-false _ (c .if1 .left))
 
 counted : (c : tie.After-child-a) → let s = start (head-of (width-of c .before)) in c .child-a .result ≡ nodeAt (s .args .t .now) (s .args .node) .a
-counted c = field-is (start (head-of (width-of c .before)) .pre) (λ n. n .a) (c .child-a .ensures)
+counted c = read-node (start (head-of (width-of c .before)) .pre .known) (λ n. n .a) (c .child-a .ensures)
 
-head-fits-requires : tie.Need-head-fits-requires
-head-fits-requires c κs = head-asked (c .before .before .before .before .before .pre)
+-- ---- the needs
 
-same-length : tie.Need-same-length
-same-length c = search needs
-
-returns : tie.Need-returns
-returns c =
+headless-returns : tie.Need-returns
+headless-returns c =
     let p = c .before .before in
     let s = start p in
     count-headless (s .pre) (s .args .out .now) (laid p) _ (p .head-fits .ensures) (not-true _ (c .if1 .taken)) _
 
-width-requires : tie.Need-width-requires
-width-requires c κs = row-known (start (head-of c) .pre .known)
-
-mul-child-a : tie.Need-mul-child-a
-mul-child-a c = omega (arith, node-bytes (start (head-of (c .before)) .pre .known))
-
-add-child-a : tie.Need-add-child-a
-add-child-a c = omega (arith, node-bytes (start (head-of (c .before)) .pre .known))
-
-child-a-requires : tie.Need-child-a-requires
-child-a-requires c κs = node-bytes (start (head-of (c .before)) .pre .known)
-
-mul-operand : tie.Need-mul-operand
-mul-operand c = search needs
-
-shared-slice-copy-out-operand : tie.Need-shared-slice-copy-out-operand
-shared-slice-copy-out-operand c = let e = width-of c .before in count-below (start (head-of e) .pre) (first e)
-
-add-operand : tie.Need-add-operand
-add-operand c = search needs
-
-add-operand-2 : tie.Need-add-operand-2
-add-operand-2 c = search needs
-
-add-operand-3 : tie.Need-add-operand-3
-add-operand-3 c = search needs
-
-add-operand-4 : tie.Need-add-operand-4
-add-operand-4 c = search needs
+count-inside : tie.Need-shared-slice-copy-out-operand
+count-inside c = let e = width-of c .before in count-below (start (head-of e) .pre) (first e)
 
 operand-requires : tie.Need-operand-requires
 operand-requires c κs =
@@ -90,11 +59,8 @@ operand-requires c κs =
     let g = first (w .before) in
     (count-asked (s .pre) g (w .width .ensures .0) (counted i), count-number (s .pre) g)
 
-same-length-2 : tie.Need-same-length-2
-same-length-2 c = search needs
-
-returns-2 : tie.Need-returns-2
-returns-2 c =
+returns : tie.Need-returns-2
+returns c =
     let x = c .before in
     let i = child-of (x .before) in
     let w = width-of i in
@@ -104,21 +70,15 @@ returns-2 c =
 
 pub count-spec : {M : Type 1} → statement M
 count-spec =
-    tie.close
-    (tie.spec
-    head-fits-requires
-    same-length
-    returns
-    width-requires
-    mul-child-a
-    add-child-a
-    child-a-requires
-    mul-operand
-    shared-slice-copy-out-operand
-    add-operand
-    add-operand-2
-    add-operand-3
-    add-operand-4
+    tie.close (tie.spec
+    (λ c κs. head-asked (c .before .before .before .before .before .pre)) (λ c. search needs)
+    headless-returns
+    (λ c κs. row-known (start (head-of c) .pre .known))
+    (λ c. omega (arith, node-bytes (start (head-of (c .before)) .pre .known)))
+    (λ c. omega (arith, node-bytes (start (head-of (c .before)) .pre .known)))
+    (λ c κs. node-bytes (start (head-of (c .before)) .pre .known)) (λ c. search needs)
+    count-inside
+    (λ c. search needs) (λ c. search needs) (λ c. search needs) (λ c. search needs)
     operand-requires
-    same-length-2
-    returns-2)
+    (λ c. search needs)
+    returns)

@@ -8,11 +8,6 @@ use Rattle.patch.proofs.Endings.{ended-shrunk, ended-broken, ended-grow
 use borrow.Author.Needs.{needs}
 use Rattle.patch.proofs.parts.ended.Statement.{statement}
 use Rattle.patch.proofs.parts.ended.Tie as tie
-use Rattle.patch.proofs.parts.ended.Reads as reads
-use Rattle.patch.proofs.parts.ended.Lts as lts
-use Rattle.patch.proofs.entry.stopped.Reads as stopped-reads
-use Rattle.patch.proofs.parts.grown.Reads as grown-reads
-use Rattle.patch.proofs.parts.shrunk.Reads as shrunk-reads
 
 -- from place to place: no iteration falls away, and the walk stands at the end
 abbrev stays : tie.Else2 → tie.Else1
@@ -20,6 +15,8 @@ stays p = p .before .before
 
 abbrev start : tie.Else1 → tie.Start
 start p = p .before .before
+
+-- ---- the needs
 
 shrunk-requires : tie.Need-shrunk-requires
 shrunk-requires c κs =
@@ -33,16 +30,13 @@ shrunk-requires c κs =
       lastly = s .pre .lastly;
     }
 
-returns : tie.Need-returns
-returns c =
+shrunk-returns : tie.Need-returns
+shrunk-returns c =
     let s = c .before .before .before in
     ended-shrunk (s .pre) (s .args .was - s .args .next) (s .args .next - s .args .was) (omega arith) (omega arith) (c .shrunk .result) (s .args .out .now) (c .shrunk .ensures)
 
-stopped-requires : tie.Need-stopped-requires
-stopped-requires c κs = search needs
-
-returns-2 : tie.Need-returns-2
-returns-2 c =
+broken-returns : tie.Need-returns-2
+broken-returns c =
     let s = start (c .before .before .before) in
     ended-broken (s .pre) (s .args .was - s .args .next) (s .args .next - s .args .was) (omega arith) (c .before .if2 .taken) (c .stopped .result) (s .args .out .now) (c .stopped .ensures)
 
@@ -52,29 +46,25 @@ grown-requires c κs =
     let s = start (stays e) in
     (subst (λ (n : ℕ). Endable (s .args .t .now) (s .args .base) (s .args .lists .now) (s .args .node) (s .args .body) (s .args .last) (s .args .old .now) n (s .args .reached)) (sym (e .if2 .left)) (s .pre), omega arith)
 
-same-length : tie.Need-same-length
-same-length c = search needs
-
-returns-3 : tie.Need-returns-3
-returns-3 c =
+grown-returns : tie.Need-returns-3
+grown-returns c =
     let e = c .before .before .before .before in
     let s = start (stays e) in
     ended-grown (s .pre) (s .args .was - s .args .next) (s .args .next - s .args .was) (omega arith) (e .if2 .left) (c .before .grown .result) (s .args .out .now) _ (c .before .grown .ensures)
 
-returns-4 : tie.Need-returns-4
-returns-4 c =
+returns : tie.Need-returns-4
+returns c =
     let s = start (stays (c .before)) in
     ended-same (s .pre) (s .args .was - s .args .next) (s .args .next - s .args .was) (omega arith) (omega arith) (c .before .if2 .left) (s .args .out .now)
 
 pub ended-spec : {M : Type 1} → statement M
 ended-spec =
-    tie.close
-    (tie.spec
+    tie.close (tie.spec
     shrunk-requires
-    returns
-    stopped-requires
-    returns-2
+    shrunk-returns
+    (λ c κs. search needs)
+    broken-returns
     grown-requires
-    same-length
-    returns-3
-    returns-4)
+    (λ c. search needs)
+    grown-returns
+    returns)

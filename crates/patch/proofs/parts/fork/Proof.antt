@@ -8,8 +8,8 @@ use borrow.Author.Tests.{not-true, not-false}
 use borrow.Author.Needs.{needs}
 use Rattle.rules.specs.Value.{Ty}
 use Rattle.rules.specs.Laws.Parts.{nodeAt}
-use Rattle.patch.proofs.Nodes.{node-bytes, row-known}
-use Rattle.patch.proofs.Heads.{field-is, head-asked, HeadGot, head-got}
+use Rattle.patch.proofs.Nodes.{node-bytes, row-known, read-node}
+use Rattle.patch.proofs.Heads.{head-asked, HeadGot, head-got}
 use Rattle.patch.proofs.Forks.{truth-byte, fork-headless, second-asked, second-broken, SecondGot, second-got, test-asked, fork-answer}
 use Rattle.patch.proofs.parts.fork.Statement.{statement}
 use Rattle.patch.proofs.parts.fork.Tie as tie
@@ -46,66 +46,20 @@ second c =
     second-got (start (head-of (w .before)) .pre) (first (w .before)) (w .width .ensures .0) (c .before .snapshot-fits .ensures) (not-false _ (c .if2 .left))
 
 condition : (c : tie.After-child-a) → let s = start (head-of (width-of (read-of c) .before)) in c .child-a .result ≡ nodeAt (s .args .t .now) (s .args .node) .a
-condition c = field-is (start (head-of (width-of (read-of c) .before)) .pre) (λ n. n .a) (c .child-a .ensures)
+condition c = read-node (start (head-of (width-of (read-of c) .before)) .pre .known) (λ n. n .a) (c .child-a .ensures)
 
-head-fits-requires : tie.Need-head-fits-requires
-head-fits-requires c κs = head-asked (c .before .before .before .before .before .pre)
+-- ---- the needs
 
-same-length : tie.Need-same-length
-same-length c = search needs
-
-returns : tie.Need-returns
-returns c =
+headless-returns : tie.Need-returns
+headless-returns c =
     let p = c .before .before in
     let s = start p in
     fork-headless (s .pre) (s .args .out .now) (laid p) _ (p .head-fits .ensures) (not-true _ (c .if1 .taken)) _
 
-width-requires : tie.Need-width-requires
-width-requires c κs = row-known (start (head-of c) .pre .known)
-
-add-snapshot-fits : tie.Need-add-snapshot-fits
-add-snapshot-fits c = search needs
-
-add-snapshot-fits-2 : tie.Need-add-snapshot-fits-2
-add-snapshot-fits-2 c = search needs
-
-snapshot-fits-requires : tie.Need-snapshot-fits-requires
-snapshot-fits-requires c κs = second-asked (start (head-of (c .before)) .pre) (first (c .before)) (c .width .ensures .0)
-
-same-length-2 : tie.Need-same-length-2
-same-length-2 c = search needs
-
-returns-2 : tie.Need-returns-2
-returns-2 c =
+second-returns : tie.Need-returns-2
+second-returns c =
     let w = c .before .before in
     second-broken (start (head-of (w .before)) .pre) (first (w .before)) (w .width .ensures .0) (c .before .snapshot-fits .ensures) (not-true _ (c .if2 .taken)) _
-
-mul-child-a : tie.Need-mul-child-a
-mul-child-a c = omega (arith, node-bytes (start (head-of (width-of c .before)) .pre .known))
-
-add-child-a : tie.Need-add-child-a
-add-child-a c = omega (arith, node-bytes (start (head-of (width-of c .before)) .pre .known))
-
-child-a-requires : tie.Need-child-a-requires
-child-a-requires c κs = node-bytes (start (head-of (width-of c .before)) .pre .known)
-
-add-shift : tie.Need-add-shift
-add-shift c = search needs
-
-mul-shift : tie.Need-mul-shift
-mul-shift c = search needs
-
-add-shift-2 : tie.Need-add-shift-2
-add-shift-2 c = search needs
-
-add-shift-3 : tie.Need-add-shift-3
-add-shift-3 c = search needs
-
-mul-shift-2 : tie.Need-mul-shift-2
-mul-shift-2 c = search needs
-
-add-shift-4 : tie.Need-add-shift-4
-add-shift-4 c = search needs
 
 shift-requires : tie.Need-shift-requires
 shift-requires c κs =
@@ -113,11 +67,8 @@ shift-requires c κs =
     let w = width-of (read-of i) in
     test-asked (start (head-of (w .before)) .pre) (first (w .before)) (w .width .ensures .0) (second (read-of i)) (condition i)
 
-same-length-3 : tie.Need-same-length-3
-same-length-3 c = search needs
-
-returns-3 : tie.Need-returns-3
-returns-3 c =
+returns : tie.Need-returns-3
+returns c =
     let x = c .before in
     let i = child-of (x .before) in
     let w = width-of (read-of i) in
@@ -126,26 +77,17 @@ returns-3 c =
 
 pub fork-spec : {M : Type 1} → statement M
 fork-spec =
-    tie.close
-    (tie.spec
-    head-fits-requires
-    same-length
-    returns
-    width-requires
-    add-snapshot-fits
-    add-snapshot-fits-2
-    snapshot-fits-requires
-    same-length-2
-    returns-2
-    mul-child-a
-    add-child-a
-    child-a-requires
-    add-shift
-    mul-shift
-    add-shift-2
-    add-shift-3
-    mul-shift-2
-    add-shift-4
+    tie.close (tie.spec
+    (λ c κs. head-asked (c .before .before .before .before .before .pre)) (λ c. search needs)
+    headless-returns
+    (λ c κs. row-known (start (head-of c) .pre .known)) (λ c. search needs) (λ c. search needs)
+    (λ c κs. second-asked (start (head-of (c .before)) .pre) (first (c .before)) (c .width .ensures .0))
+    (λ c. search needs)
+    second-returns
+    (λ c. omega (arith, node-bytes (start (head-of (width-of c .before)) .pre .known)))
+    (λ c. omega (arith, node-bytes (start (head-of (width-of c .before)) .pre .known)))
+    (λ c κs. node-bytes (start (head-of (width-of c .before)) .pre .known)) (λ c. search needs) (λ c. search needs)
+    (λ c. search needs) (λ c. search needs) (λ c. search needs) (λ c. search needs)
     shift-requires
-    same-length-3
-    returns-3)
+    (λ c. search needs)
+    returns)

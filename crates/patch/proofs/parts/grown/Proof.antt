@@ -7,12 +7,6 @@ use Rattle.patch.proofs.Growing.{grown-repeatable, grown-refused, grown
 use borrow.Author.Needs.{needs}
 use Rattle.patch.proofs.parts.grown.Statement.{statement}
 use Rattle.patch.proofs.parts.grown.Tie as tie
-use Rattle.patch.proofs.parts.grown.Reads as reads
-use Rattle.patch.proofs.parts.grown.Lts as lts
-use Rattle.patch.proofs.entry.stopped.Reads as stopped-reads
-use Rattle.patch.proofs.parts.freshened.Reads as freshened-reads
-use Rattle.patch.proofs.snapshot.started.Reads as started-reads
-use Rattle.run.proofs.statement.repeat.Reads as repeat-reads
 
 -- from place to place: the store begun, the run behind it, its end
 abbrev start : tie.After-started → tie.Start
@@ -25,20 +19,7 @@ begun p = p .before .before
 abbrev after : tie.After-repeat → List ℤ
 after p = p .repeat .last .1 .1 .1 .1 .1 .1 .1 .1 .0
 
-started-requires : tie.Need-started-requires
-started-requires c κs = search needs
-
-repeat-requires : tie.Need-repeat-requires
-repeat-requires c κs = grown-repeatable (start (c .before) .pre .0) (c .before .started .ensures)
-
-enum-known-outcome : tie.Need-enum-known-outcome
-enum-known-outcome c = search needs
-
-stopped-requires : tie.Need-stopped-requires
-stopped-requires c κs = search needs
-
-enum-told : tie.Need-enum-told
-enum-told c = search needs
+-- ---- the needs
 
 freshened-requires : tie.Need-freshened-requires
 freshened-requires c κs =
@@ -49,35 +30,25 @@ freshened-requires c κs =
       near = grown-near (s .pre .0) (begun r .started .ensures) (s .args .more) (r .repeat .result) (s .args .out .now) (after r) (r .repeat .ensures) (c .enum-told .given .1);
     }
 
-same-length : tie.Need-same-length
-same-length c = search needs
-
-returns : tie.Need-returns
-returns c =
+refused-returns : tie.Need-returns
+refused-returns c =
     let r = c .before .before .before .before .before in
     let s = start (begun r) in
     grown-refused (s .pre .0) (begun r .started .ensures) (s .args .more) (r .repeat .result) (s .args .out .now) (after r) (r .repeat .ensures) (s .pre .1) (c .before .before .outcome .given .1) (c .stopped .result) (c .stopped .ensures)
 
-same-length-2 : tie.Need-same-length-2
-same-length-2 c = search needs
-
-returns-2 : tie.Need-returns-2
-returns-2 c =
+returns : tie.Need-returns-2
+returns c =
     let r = c .before .before .before .before in
     let s = start (begun r) in
     grown-answer (s .pre .0) (begun r .started .ensures) (s .args .more) (r .repeat .result) (s .args .out .now) (after r) (r .repeat .ensures) (c .before .enum-told .given .1) (s .pre .1) (c .freshened .result) (c .freshened .ensures)
 
 pub grown-spec : {M : Type 1} → statement M
 grown-spec =
-    tie.close
-    (tie.spec
-    started-requires
-    repeat-requires
-    enum-known-outcome
-    stopped-requires
-    enum-told
+    tie.close (tie.spec
+    (λ c κs. search needs) (λ c κs. grown-repeatable (start (c .before) .pre .0) (c .before .started .ensures))
+    (λ c. search needs) (λ c κs. search needs) (λ c. search needs)
     freshened-requires
-    same-length
-    returns
-    same-length-2
-    returns-2)
+    (λ c. search needs)
+    refused-returns
+    (λ c. search needs)
+    returns)

@@ -4,12 +4,12 @@ use mathlib.Core.Path.{_≡_, sym, _∙_}
 use Prim.Native.Nat.{_+_, _≤_, _<_}
 use native.Mathlib.Omega.{arith}
 use mir.Syntax.{w64}
-use mir.Val.{toZ, ofZ}
 use mir.ValLaws.{toZ-ofZ}
 use borrow.Author.Tests.{not-true, not-false}
 use borrow.Author.Needs.{needs}
 use Rattle.rules.specs.Value.{at}
 use Rattle.patch.proofs.Heads.{head-none, head-wrong, head-snapped}
+use Rattle.patch.proofs.Changes.{kept}
 use Rattle.patch.proofs.parts.head_fits.Statement.{statement}
 use Rattle.patch.proofs.parts.head_fits.Tie as tie
 
@@ -17,35 +17,22 @@ use Rattle.patch.proofs.parts.head_fits.Tie as tie
 abbrev start : tie.After-in-type → tie.Start
 start c = c .before .before .before .before
 
-word-is : (c : tie.After-in-type) → toZ w64 (ofZ w64 (at (start c .args .old .now) (start c .args .from))) ≡ at (start c .args .old .now) (start c .args .from)
+word-is : (c : tie.After-in-type) → kept (at (start c .args .old .now) (start c .args .from)) ≡ at (start c .args .old .now) (start c .args .from)
 word-is c = toZ-ofZ w64 _ (search needs)
 
 below : (c : tie.After-in-type) → start c .args .from < start c .args .end
 below c = omega arith
 
-returns : tie.Need-returns
-returns c = let s = c .before .before in head-none (s .pre) (s .args .kind) (s .args .out .now) _ (c .if1 .taken)
+-- ---- the needs
 
-mul-in-type : tie.Need-mul-in-type
-mul-in-type c = search needs
+none-returns : tie.Need-returns
+none-returns c = let s = c .before .before in head-none (s .pre) (s .args .kind) (s .args .out .now) _ (c .if1 .taken)
 
-shared-slice-copy-out-in-type : tie.Need-shared-slice-copy-out-in-type
-shared-slice-copy-out-in-type c = search needs
-
-in-type-requires : tie.Need-in-type-requires
-in-type-requires c κs = search needs
-
-returns-2 : tie.Need-returns-2
-returns-2 c =
+wrong-returns : tie.Need-returns-2
+wrong-returns c =
     let w = c .before in
     let s = start w in
     head-wrong (s .pre) (s .args .kind) (s .args .out .now) _ (below w) (word-is w) (sym (w .in-type .ensures) ∙ not-true _ (c .if2 .taken))
-
-add-patch-snapshot : tie.Need-add-patch-snapshot
-add-patch-snapshot c = search needs
-
-add-patch-snapshot-2 : tie.Need-add-patch-snapshot-2
-add-patch-snapshot-2 c = search needs
 
 patch-snapshot-requires : tie.Need-patch-snapshot-requires
 patch-snapshot-requires c κs =
@@ -54,11 +41,8 @@ patch-snapshot-requires c κs =
     let next : s .args .from + 1 ≤ s .args .end = omega (arith, below w) in
     (record { named = s .pre .named; inside = record { ordered = next; ends = s .pre .inside .ends } }, (s .pre .near, s .pre .place))
 
-same-length : tie.Need-same-length
-same-length c = search needs
-
-returns-3 : tie.Need-returns-3
-returns-3 c =
+returns : tie.Need-returns-3
+returns c =
     let p = c .before in
     let e = p .before .before in
     let w = e .before in
@@ -68,15 +52,11 @@ returns-3 c =
 
 pub head-fits-spec : {M : Type 1} → statement M
 head-fits-spec =
-    tie.close
-    (tie.spec
-    returns
-    mul-in-type
-    shared-slice-copy-out-in-type
-    in-type-requires
-    returns-2
-    add-patch-snapshot
-    add-patch-snapshot-2
+    tie.close (tie.spec
+    none-returns
+    (λ c. search needs) (λ c. search needs) (λ c κs. search needs)
+    wrong-returns
+    (λ c. search needs) (λ c. search needs)
     patch-snapshot-requires
-    same-length
-    returns-3)
+    (λ c. search needs)
+    returns)

@@ -10,13 +10,6 @@ use Rattle.patch.proofs.Shrinking.{shrunk-short, shrunk-broken, tail-st
 use borrow.Author.Needs.{needs}
 use Rattle.patch.proofs.parts.shrunk.Statement.{statement}
 use Rattle.patch.proofs.parts.shrunk.Tie as tie
-use Rattle.patch.proofs.parts.shrunk.Reads as reads
-use Rattle.patch.proofs.parts.shrunk.Lts as lts
-use Rattle.patch.proofs.entry.stopped.Reads as stopped-reads
-use Rattle.patch.proofs.snapshot.settled.Reads as settled-reads
-use Rattle.patch.proofs.snapshot.snapshot_fits.Reads as snapshot-fits-reads
-use Rattle.patch.proofs.snapshot.started.Reads as started-reads
-use Rattle.patch.proofs.snapshot.width.Reads as width-reads
 
 -- from place to place: the width, the room before the end, the last snapshot read, the store
 abbrev start : tie.After-width → tie.Start
@@ -34,70 +27,42 @@ begun p = p .before .before .before .before .before
 room : (p : tie.Else1) → p .before .width .result ≤ start (wide p) .args .end - start (wide p) .args .reached .from
 room p = omega arith
 
-width-requires : tie.Need-width-requires
-width-requires c κs = row-known (c .before .before .pre .known)
+-- ---- the needs
 
-sub-if1 : tie.Need-sub-if1
-sub-if1 c = search needs
-
-stopped-requires : tie.Need-stopped-requires
-stopped-requires c κs = search needs
-
-returns : tie.Need-returns
-returns c =
+short-returns : tie.Need-returns
+short-returns c =
     let w = c .before .before in
-    shrunk-short (start w .pre) (w .width .result) (w .width .ensures .0) (omega arith) (c .stopped .result) (c .stopped .ensures)
+    shrunk-short (start w .pre) (w .width .ensures .0) (omega arith) (c .stopped .result) (c .stopped .ensures)
 
-sub-snapshot-fits : tie.Need-sub-snapshot-fits
-sub-snapshot-fits c = search needs
-
-snapshot-fits-requires : tie.Need-snapshot-fits-requires
-snapshot-fits-requires c κs = search needs
-
-stopped-requires-2 : tie.Need-stopped-requires-2
-stopped-requires-2 c κs = search needs
-
-returns-2 : tie.Need-returns-2
-returns-2 c =
+broken-returns : tie.Need-returns-2
+broken-returns c =
     let f = c .before .before in
     let w = wide (f .before) in
-    shrunk-broken (start w .pre) (w .width .result) (w .width .ensures .0) (room (f .before)) (f .snapshot-fits .result) (f .snapshot-fits .ensures) (not-true _ (c .before .if2 .taken)) (c .stopped2 .result) (c .stopped2 .ensures)
-
-started-requires : tie.Need-started-requires
-started-requires c κs = search needs
-
-sub-settled : tie.Need-sub-settled
-sub-settled c = search needs
+    shrunk-broken (start w .pre) (w .width .ensures .0) (room (f .before)) (f .snapshot-fits .result) (f .snapshot-fits .ensures) (not-true _ (c .before .if2 .taken)) (c .stopped2 .result) (c .stopped2 .ensures)
 
 settled-requires : tie.Need-settled-requires
 settled-requires c κs =
     let e = begun c in
     let w = wide (read e) in (
-      tail-standing (start w .pre) (w .width .result) (w .width .ensures .0) (room (read e)) (e .before .snapshot-fits .result) (e .before .snapshot-fits .ensures) (not-false _ (e .if2 .left)),
+      tail-standing (start w .pre) (w .width .ensures .0) (room (read e)) (e .before .snapshot-fits .result) (e .before .snapshot-fits .ensures) (not-false _ (e .if2 .left)),
       store-near (from-last (start w .pre .lastly) (c .before .before .started .ensures)),
     )
 
-returns-3 : tie.Need-returns-3
-returns-3 c =
+returns : tie.Need-returns-3
+returns c =
     let e = begun (c .before) in
     let w = wide (read e) in
-    shrunk-answer (start w .pre) (w .width .result) (w .width .ensures .0) (room (read e)) (e .before .snapshot-fits .result) (e .before .snapshot-fits .ensures) (not-false _ (e .if2 .left))
+    shrunk-answer (start w .pre) (w .width .ensures .0) (room (read e)) (e .before .snapshot-fits .result) (e .before .snapshot-fits .ensures) (not-false _ (e .if2 .left))
     (c .before .before .before .started .ensures) _
     (record { outcome = refl; changes = c .settled .ensures; left = refl; walked = refl; reused = refl; from = refl; at = refl })
 
 pub shrunk-spec : {M : Type 1} → statement M
 shrunk-spec =
-    tie.close
-    (tie.spec
-    width-requires
-    sub-if1
-    stopped-requires
-    returns
-    sub-snapshot-fits
-    snapshot-fits-requires
-    stopped-requires-2
-    returns-2
-    started-requires
-    sub-settled
+    tie.close (tie.spec
+    (λ c κs. row-known (c .before .before .pre .known)) (λ c. search needs) (λ c κs. search needs)
+    short-returns
+    (λ c. search needs) (λ c κs. search needs) (λ c κs. search needs)
+    broken-returns
+    (λ c κs. search needs) (λ c. search needs)
     settled-requires
-    returns-3)
+    returns)

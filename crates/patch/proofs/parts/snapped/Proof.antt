@@ -3,7 +3,8 @@
 use native.Mathlib.Omega.{arith}
 use borrow.Author.Tests.{not-true, not-false}
 use borrow.Author.Needs.{needs}
-use Rattle.patch.proofs.Heads.{named-row, snapped-broken, snapped-on}
+use Rattle.patch.proofs.Heads.{snapped-broken, snapped-on}
+use Rattle.patch.proofs.Nodes.{named-row}
 use Rattle.patch.proofs.parts.snapped.Statement.{statement}
 use Rattle.patch.proofs.parts.snapped.Tie as tie
 
@@ -11,27 +12,20 @@ use Rattle.patch.proofs.parts.snapped.Tie as tie
 abbrev start : tie.After-patch-snapshot → tie.Start
 start c = c .before .before .before .before .before .before
 
+-- ---- the needs
+
 patch-snapshot-requires : tie.Need-patch-snapshot-requires
 patch-snapshot-requires c κs =
     let s = c .before .before .before .before .before in
     let h = s .pre .1 in
     (record { named = s .pre .0; inside = h .inside }, (h .near, omega (arith, h .place, h .inside .ordered, h .inside .ends)))
 
-stopped-requires : tie.Need-stopped-requires
-stopped-requires c κs = search needs
-
-same-length : tie.Need-same-length
-same-length c = search needs
-
-returns : tie.Need-returns
-returns c =
+broken-returns : tie.Need-returns
+broken-returns c =
     let t = c .before in
     let p = t .before .before in
     let s = start p in
     snapped-broken (s .pre .0) (s .pre .1) (s .args .out .now) _ _ (p .patch-snapshot .ensures) (not-true _ (t .if1 .taken)) (c .stopped .ensures)
-
-width-requires : tie.Need-width-requires
-width-requires c κs = named-row (start (c .before .before) .pre .0)
 
 advanced-requires : tie.Need-advanced-requires
 advanced-requires c κs =
@@ -39,11 +33,8 @@ advanced-requires c κs =
     let h = s .pre .1 in
     (omega (arith, h .inside .ordered, h .inside .ends, c .width .ensures .1), omega (arith, h .place, h .inside .ordered, h .inside .ends, c .width .ensures .1))
 
-same-length-2 : tie.Need-same-length-2
-same-length-2 c = search needs
-
-returns-2 : tie.Need-returns-2
-returns-2 c =
+returns : tie.Need-returns-2
+returns c =
     let e = c .before .before in
     let p = e .before .before in
     let s = start p in
@@ -51,13 +42,11 @@ returns-2 c =
 
 pub snapped-spec : {M : Type 1} → statement M
 snapped-spec =
-    tie.close
-    (tie.spec
+    tie.close (tie.spec
     patch-snapshot-requires
-    stopped-requires
-    same-length
-    returns
-    width-requires
+    (λ c κs. search needs) (λ c. search needs)
+    broken-returns
+    (λ c κs. named-row (start (c .before .before) .pre .0))
     advanced-requires
-    same-length-2
-    returns-2)
+    (λ c. search needs)
+    returns)

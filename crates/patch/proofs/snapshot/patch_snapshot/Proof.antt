@@ -23,11 +23,10 @@ Fits s = FitsAs (readSnapshot (typesOf (s .args .t .now)) (listAt (s .args .list
 told : (f : tie.After-snapshot-fits) (b : Bool) → f .snapshot-fits .result ≡ b → Fits (start f) b
 told f b e = subst (Fits (start f)) e (f .snapshot-fits .ensures)
 
-snapshot-fits-requires : tie.Need-snapshot-fits-requires
-snapshot-fits-requires c κs = search needs
+-- ---- the needs
 
-returns : tie.Need-returns
-returns c =
+broken-returns : tie.Need-returns
+broken-returns c =
     let s = start (c .before) in
     patched-not (s .pre .0) (s .args .changes .now) (s .args .out .now) (s .args .at) _ (told (c .before) false (not-true _ (c .if1 .taken)))
 
@@ -37,11 +36,8 @@ move-snapshot-requires c κs =
     let s = start (e .before) in
     (fits-standing (s .pre .0) (told (e .before) true (not-false _ (e .if1 .left))), s .pre .1)
 
-same-length : tie.Need-same-length
-same-length c = search needs
-
-returns-2 : tie.Need-returns-2
-returns-2 c =
+returns : tie.Need-returns-2
+returns c =
     let m = c .before in
     let e = m .before .before in
     let s = start (e .before) in
@@ -50,5 +46,9 @@ returns-2 c =
 
 pub patch-snapshot-spec : {M : Type 1} → statement M
 patch-snapshot-spec =
-    tie.close
-    (tie.spec snapshot-fits-requires returns move-snapshot-requires same-length returns-2)
+    tie.close (tie.spec
+    (λ c κs. search needs)
+    broken-returns
+    move-snapshot-requires
+    (λ c. search needs)
+    returns)

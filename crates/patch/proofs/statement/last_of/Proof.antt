@@ -3,17 +3,16 @@
 use borrow.Author.Tests.{eq-eqb, ne-eqb}
 use Rattle.patch.proofs.statement.last_of.Statement.{statement}
 use Rattle.patch.proofs.statement.last_of.Tie as tie
-use Rattle.patch.proofs.statement.last_of.Reads as reads
-use Rattle.patch.proofs.statement.last_of.Lts as lts
 
-returns : tie.Need-returns
-returns c = rw (eq-eqb (c .before .args .count) 0 (c .if1 .taken))
+none-returns : tie.Need-returns
+none-returns c = rw (eq-eqb (c .before .args .count) 0 (c .if1 .taken))
 
-sub-result : tie.Need-sub-result
-sub-result c = c .before .pre (c .if1 .left)
-
-returns-2 : tie.Need-returns-2
-returns-2 c = rw (ne-eqb (c .before .args .count) 0 (c .if1 .left))
+returns : tie.Need-returns-2
+returns c = rw (ne-eqb (c .before .args .count) 0 (c .if1 .left))
 
 pub last-of-spec : {M : Type 1} → statement M
-last-of-spec = tie.close (tie.spec returns sub-result returns-2)
+last-of-spec =
+    tie.close (tie.spec
+    none-returns
+    (λ c. c .before .pre (c .if1 .left))
+    returns)

@@ -1,15 +1,13 @@
 -- `branch` in the cycle: the head of the if, and then the branch, kept or flipped.
 -- Assumes nothing.
-use mathlib.Core.Path.{_≡_, sym, ap, _∙_, subst}
+use mathlib.Core.Path.{_≡_, sym, ap, _∙_}
 use Prim.Native.Nat.{ℕ}
 use native.Mathlib.Omega.{arith}
 use borrow.Author.Needs.{needs}
-use lib.IntN.{ℤ}
 use mir.Syntax.{w64}
 use mir.Val.{toZ, ofZ}
 use Rattle.run.specs.Laws.Numbers.{word-back}
-use Rattle.patch.specs.Statement.{FlipsTo}
-use Rattle.patch.proofs.Turns.{near-passed}
+use Rattle.patch.proofs.Changes.{kept-near}
 use Rattle.patch.proofs.Ifs.{branch-refused, branch-forked, branch-near, branch-kept, branch-flipped}
 use borrow.Fn.Kinds.{In, Out}
 use Rattle.patch.proofs.statement.+branch+iterate+kept+looped+parts+pay+sequence+turn+turns+visit.Lts-branch as lts
@@ -55,35 +53,35 @@ module _ (t : ℕ) where
       let k = c .before .before in
       let f = forked k in
       let s = start f in
-      (omega (arith, s .pre .0), branch-forked (s .pre .1) (f .fork .result) (s .args .out .now) (f .fork .last .1 .1 .1 .1 .1 .1 .1 .0) (f .fork .ensures) (k .before .test2 .given .1))
+      (omega (arith, s .pre .0), branch-forked (s .pre .1) (f .fork .result) _ _ (f .fork .ensures) (k .before .test2 .given .1))
 
   kept-returns : At lts.Need-returns
   kept-returns c =
       let k = c .before .before .before .before in
       let f = forked k in
       let s = start f in
-      branch-kept (s .pre .1) (f .fork .result) (s .args .out .now) (f .fork .last .1 .1 .1 .1 .1 .1 .1 .0) (f .fork .ensures) (k .before .test2 .given .1) (sym (back k) ∙ ap (toZ w64) (c .before .before .before .if1 .taken)) (c .before .kept .result) (c .before .kept .last .1 .1 .1 .1 .1 .1 .1 .1 .0) (c .before .kept .ensures)
+      branch-kept (s .pre .1) (f .fork .result) _ _ (f .fork .ensures) (k .before .test2 .given .1) (sym (back k) ∙ ap (toZ w64) (c .before .before .before .if1 .taken)) (c .before .kept .result) _ (c .before .kept .ensures)
 
   flipped-requires : At lts.Need-flipped-requires
   flipped-requires c κs =
       let k = c .before .before in
       let f = forked k in
       let s = start f in
-      (branch-forked (s .pre .1) (f .fork .result) (s .args .out .now) (f .fork .last .1 .1 .1 .1 .1 .1 .1 .0) (f .fork .ensures) (k .before .test2 .given .1), near-passed (k .before .test2 .given .0 .0) (branch-near (s .pre .1) (f .fork .result) (s .args .out .now) (f .fork .last .1 .1 .1 .1 .1 .1 .1 .0) (f .fork .ensures) (k .before .test2 .given .1)))
+      (branch-forked (s .pre .1) (f .fork .result) _ _ (f .fork .ensures) (k .before .test2 .given .1), kept-near (k .before .test2 .given .0 .0) (branch-near (s .pre .1) (f .fork .result) _ _ (f .fork .ensures) (k .before .test2 .given .1)))
 
   refused-returns : At lts.Need-returns-2
   refused-returns c =
       let f = c .before .before .before .before .before in
       let s = start f in
-      branch-refused (s .pre .1) (f .fork .result) (s .args .out .now) (f .fork .last .1 .1 .1 .1 .1 .1 .1 .0) (f .fork .ensures) (c .before .before .test .given .1) (c .stopped .result) (c .stopped .ensures) (f .fork .last .1 .1 .1 .1 .1 .1 .1 .0)
+      branch-refused (s .pre .1) (f .fork .result) _ _ (f .fork .ensures) (c .before .before .test .given .1) (c .stopped .result) (c .stopped .ensures) _
 
   flipped-returns : At lts.Need-returns-3
   flipped-returns c =
       let k = c .before .before .before .before in
       let f = forked k in
       let s = start f in
-      branch-flipped (s .pre .1) (f .fork .result) (s .args .out .now) (f .fork .last .1 .1 .1 .1 .1 .1 .1 .0) (f .fork .ensures) (k .before .test2 .given .1) (λ e. c .before .before .before .if1 .left (ap (ofZ w64) e)) (c .before .flipped .result) (c .before .flipped .last .1 .1 .1 .1 .1 .1 .1 .1 .1 .0)
-      (subst (λ (z : ℤ). FlipsTo (s .args .t .now) (s .args .node) z (s .args .old .now) (s .args .end) (s .args .reached) (c .before .flipped .result) (f .fork .last .1 .1 .1 .1 .1 .1 .1 .0) (c .before .flipped .last .1 .1 .1 .1 .1 .1 .1 .1 .1 .0)) (back k) (c .before .flipped .ensures))
+      branch-flipped (s .pre .1) (f .fork .result) _ _ (f .fork .ensures) (k .before .test2 .given .1) (λ e. c .before .before .before .if1 .left (ap (ofZ w64) e)) (back k)
+      (c .before .flipped .result) _ (c .before .flipped .ensures)
 
   -- the needs in the order of the code; a name marks one with a thought in it
   pub branch-meets : {M : Type 1} → lts.Closed calls given branch.Post M

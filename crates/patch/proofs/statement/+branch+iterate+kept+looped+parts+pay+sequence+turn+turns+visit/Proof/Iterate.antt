@@ -1,13 +1,11 @@
 -- `iterate` in the cycle: the iterations that stay are patched, the count is set in front, and the rest follow.
 -- Assumes nothing.
-use mathlib.Core.Path.{_≡_, refl, sym, ap, ap₂, _∙_, subst}
-use Prim.Native.Nat.{ℕ, _+_, _-_, _*_, _≤_, _<_, min}
+use mathlib.Core.Path.{_≡_, sym, ap, ap₂, _∙_, subst}
+use Prim.Native.Nat.{ℕ, _+_, _-_, _≤_, min}
 use native.Mathlib.Omega.{arith}
 use borrow.Author.Needs.{needs}
-use lib.IntN.{ℤ}
 use lib.ListN.{length, set}
 use mir.Syntax.{w64}
-use mir.Val.{toZ, ofZ}
 use mir.ValLaws.{toZ-ofZ}
 use Rattle.rules.specs.Value.{at}
 use Rattle.rules.specs.Laws.Parts.{nodeAt}
@@ -17,7 +15,8 @@ use Rattle.patch.specs.Entry.{AdvancedBy}
 use Rattle.patch.proofs.Nodes.{node-bytes, row-known, read-node}
 use Rattle.rules.specs.Run.{times as countOf}
 use Rattle.patch.specs.Statement.{lastOf, EndsTo}
-use Rattle.patch.proofs.Repeats.{counted-at, count-inside, body-below, turns-turnable, iterate-refused, iterate-behind, iterate-endable, iterate-answer}
+use Rattle.patch.proofs.Counted.{counted-at, count-inside, body-below}
+use Rattle.patch.proofs.Repeats.{turns-turnable, iterate-refused, iterate-behind, iterate-endable, iterate-answer}
 use borrow.Fn.Kinds.{In, Out}
 use Rattle.patch.proofs.statement.+branch+iterate+kept+looped+parts+pay+sequence+turn+turns+visit.Lts-iterate as lts
 use Rattle.numbers.specs.Measured.{at-measure, below-measure}
@@ -84,8 +83,12 @@ module _ (t : ℕ) where
   stay c = c .least .ensures ∙ ap₂ {C = ℕ} min (was (c .before .before)) (next (c .before))
 
   -- the walk behind the head
-  step : (c : At lts.After-advanced) → AdvancedBy (1 + length (listAt (start (counted (c .before)) .args .lists .now) (start (counted (c .before)) .args .node)) + start (counted (c .before)) .args .length) (start (counted (c .before)) .args .reached) (c .advanced .result)
-  step c = let s = start (counted (c .before)) in subst (λ (n : ℕ). AdvancedBy (1 + n + s .args .length) (s .args .reached) (c .advanced .result)) (wide (counted (c .before))) (c .advanced .ensures)
+  step : (c : At lts.After-advanced)
+      → let s = start (counted (c .before)) .args in
+      AdvancedBy (1 + length (listAt (s .lists .now) (s .node)) + s .length) (s .reached) (c .advanced .result)
+  step c =
+      let s = start (counted (c .before)) in
+      subst (λ (n : ℕ). AdvancedBy (1 + n + s .args .length) (s .args .reached) (c .advanced .result)) (wide (counted (c .before))) (c .advanced .ensures)
 
   inside : (c : At lts.After-width) → start c .args .reached .from + (1 + c .width .result + start c .args .length) ≤ length (start c .args .old .now)
   inside c = omega (arith, wide c, count-inside (start c .pre .1), start c .pre .1 .entered .sound .inside .ends)
@@ -96,6 +99,13 @@ module _ (t : ℕ) where
   short : (c : At lts.After-width) → length (start c .args .old .now) ≤ farthest
   short c = omega arith
 
+  -- what the iterations laid down is as long as before
+  turns-long : (v : At lts.After-turns) → length (v .turns .last .1 .1 .1 .1 .1 .1 .1 .1 .1 .0) ≡ length (start (counted (least-of v)) .args .out .now)
+  turns-long v = v .turns .kept .1 .1 .1 .1 .1 .1 .1 .1 .1 .0
+
+  put-long : (p : At lts.After-put) → length (p .put .last .0) ≡ length (start (counted (least-of (turned (p .before .before)))) .args .out .now)
+  put-long p = p .put .kept .0 ∙ turns-long (turned (p .before .before))
+
   -- ---- the needs
 
   turns-requires : At lts.Need-turns-requires
@@ -103,7 +113,7 @@ module _ (t : ℕ) where
       let a = c .before in
       let w = counted (a .before) in
       let h = start w .pre in
-      (omega (arith, h .0, body-below (h .1) _ (body w)), turns-turnable (h .1) (step a) _ (body w))
+      (omega (arith, h .0, body-below (h .1) (body w)), turns-turnable (h .1) (step a) (body w))
 
   refused-returns : At lts.Need-returns
   refused-returns c =
@@ -111,7 +121,7 @@ module _ (t : ℕ) where
       let l = least-of v in
       let w = counted l in
       let s = start w in
-      iterate-refused (s .pre .1) (step (v .before .before)) (w .before .child-b .result) (body w) (l .least .result) (stay l) (v .turns .result) (s .args .out .now) (v .turns .last .1 .1 .1 .1 .1 .1 .1 .1 .1 .0) (v .turns .ensures) (c .enum-told2 .given .1) (v .turns .last .1 .1 .1 .1 .1 .1 .1 .1 .1 .0)
+      iterate-refused (s .pre .1) (step (v .before .before)) (body w) (stay l) (v .turns .result) _ _ (v .turns .ensures) (c .enum-told2 .given .1) _
 
   behind : (c : At lts.After-enum-told) → (least-of (turned c) .least .result ≡ 0 → ⊥) → counted (least-of (turned c)) .width .result ≤ turned c .turns .result .from
   behind c has =
@@ -119,10 +129,16 @@ module _ (t : ℕ) where
       let l = least-of v in
       let w = counted l in
       let s = start w in
-      omega (arith, wide w, iterate-behind (s .pre .1) (step (v .before .before)) (w .before .child-b .result) (body w) (l .least .result) (stay l) (v .turns .result) (s .args .out .now) (v .turns .last .1 .1 .1 .1 .1 .1 .1 .1 .1 .0) (v .turns .ensures) (c .enum-told .given .1) has)
+      omega (arith, wide w, iterate-behind (s .pre .1) (step (v .before .before)) (body w) (stay l) (v .turns .result) _ _ (v .turns .ensures) (c .enum-told .given .1) has)
 
-  last : (c : At lts.After-last-of) → c .last-of .result ≡ lastOf (least-of (turned (c .before .before .before .before)) .least .result) (start (counted (least-of (turned (c .before .before .before .before)))) .args .reached .from + 1) (turned (c .before .before .before .before) .turns .result .from) (length (listAt (start (counted (least-of (turned (c .before .before .before .before)))) .args .lists .now) (start (counted (least-of (turned (c .before .before .before .before)))) .args .node)))
-  last c = let v = turned (c .before .before .before .before) in let w = counted (least-of v) in c .last-of .ensures ∙ ap (lastOf (least-of v .least .result) (start w .args .reached .from + 1) (v .turns .result .from)) (wide w)
+  last : (c : At lts.After-last-of)
+      → let v = turned (c .before .before .before .before) in
+      let s = start (counted (least-of v)) .args in
+      c .last-of .result ≡ lastOf (least-of v .least .result) (s .reached .from + 1) (v .turns .result .from) (length (listAt (s .lists .now) (s .node)))
+  last c =
+      let v = turned (c .before .before .before .before) in
+      let w = counted (least-of v) in
+      c .last-of .ensures ∙ ap (lastOf (least-of v .least .result) (start w .args .reached .from + 1) (v .turns .result .from)) (wide w)
 
   ended-requires : At lts.Need-ended-requires
   ended-requires c κs =
@@ -132,7 +148,7 @@ module _ (t : ℕ) where
       let l = least-of v in
       let w = counted l in
       let s = start w in
-      iterate-endable (s .pre .1) (step (v .before .before)) (w .before .child-b .result) (body w) (l .least .result) (stay l) (v .turns .result) (s .args .out .now) (v .turns .last .1 .1 .1 .1 .1 .1 .1 .1 .1 .0) (v .turns .ensures) (e .enum-told .given .1) (o .last-of .result) (last o)
+      iterate-endable (s .pre .1) (step (v .before .before)) (body w) (stay l) (v .turns .result) _ _ (v .turns .ensures) (e .enum-told .given .1) (last o)
 
   returns : At lts.Need-returns-2
   returns c =
@@ -144,8 +160,8 @@ module _ (t : ℕ) where
       let l = least-of v in
       let w = counted l in
       let s = start w in
-      iterate-answer (s .pre .1) (step (v .before .before)) (w .before .child-b .result) (body w) (l .least .result) (stay l) (v .turns .result) (s .args .out .now) (v .turns .last .1 .1 .1 .1 .1 .1 .1 .1 .1 .0) (v .turns .ensures) (e .enum-told .given .1) (o .last-of .result) (last o)
-      (x .ended .result) (p .put .last .0) (x .ended .last .1 .1 .1 .1 .1 .1 .1 .1 .1 .1 .1 .0)
+      iterate-answer (s .pre .1) (step (v .before .before)) (body w) (stay l) (v .turns .result) _ _ (v .turns .ensures) (e .enum-told .given .1) (last o)
+      (x .ended .result) (p .put .last .0) _
       (p .put .ensures ∙ ap (set (v .turns .last .1 .1 .1 .1 .1 .1 .1 .1 .1 .0) (s .args .reached .at)) (toZ-ofZ w64 _ (s .fits .new)))
       (subst (λ (n : ℕ). EndsTo (s .args .t .now) (s .args .lists .now) (s .args .node) (w .before .child-b .result) (countOf (s .pre .1 .count .head .word) - n) (n - countOf (s .pre .1 .count .head .word)) (o .last-of .result) (s .args .old .now) (s .args .end) (v .turns .result) (x .ended .result) (p .put .last .0) (x .ended .last .1 .1 .1 .1 .1 .1 .1 .1 .1 .1 .1 .0)) (next (l .before))
       (subst (λ (n : ℕ). EndsTo (s .args .t .now) (s .args .lists .now) (s .args .node) (w .before .child-b .result) (n - l .before .times2 .result) (l .before .times2 .result - n) (o .last-of .result) (s .args .old .now) (s .args .end) (v .turns .result) (x .ended .result) (p .put .last .0) (x .ended .last .1 .1 .1 .1 .1 .1 .1 .1 .1 .1 .1 .0)) (was (l .before .before)) (x .ended .ensures)))
@@ -164,11 +180,11 @@ module _ (t : ℕ) where
       (λ c κs. (omega (arith, inside (counted c), short (counted c)), near (counted c)))
       turns-requires
       (λ c. search needs) (λ c. search needs)
-      (λ c. c .before .before .before .turns .kept .1 .1 .1 .1 .1 .1 .1 .1 .1 .0)
+      (λ c. turns-long (c .before .before .before))
       refused-returns
       (λ c κs. search needs)
       (λ c. let w = counted (least-of (turned (c .before .before .before))) in omega (arith, inside w, short w))
       (λ c κs. behind (c .before .before .before))
       ended-requires
-      (λ c. let p = c .before .before .before .before .before in c .before .ended .kept .1 .1 .1 .1 .1 .1 .1 .1 .1 .1 .1 .0 ∙ p .put .kept .0 ∙ turned (p .before .before) .turns .kept .1 .1 .1 .1 .1 .1 .1 .1 .1 .0)
+      (λ c. c .before .ended .kept .1 .1 .1 .1 .1 .1 .1 .1 .1 .1 .1 .0 ∙ put-long (c .before .before .before .before .before))
       returns

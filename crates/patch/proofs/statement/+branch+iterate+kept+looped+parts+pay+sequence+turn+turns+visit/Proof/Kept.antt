@@ -1,7 +1,7 @@
 -- `kept` in the cycle: the branch that the condition takes is visited, the snapshot after takes its changes, and the condition stays.
 -- Assumes nothing.
 use mathlib.Core.Path.{_≡_, refl, sym, ap, ap₂, _∙_, subst}
-use Prim.Native.Nat.{ℕ, _+_, _-_, _*_, _≤_, _<_, min}
+use Prim.Native.Nat.{ℕ, _+_, _-_, _*_, _≤_}
 use native.Mathlib.Omega.{arith}
 use borrow.Author.Needs.{needs}
 use lib.IntN.{ℤ}
@@ -10,7 +10,6 @@ use mir.Syntax.{w64}
 use mir.Val.{toZ, ofZ}
 use mir.ValLaws.{toZ-ofZ}
 use Rattle.rules.specs.Value.{at}
-use Rattle.rules.specs.Laws.Parts.{nodeAt}
 use Rattle.table.specs.Lists.{listAt}
 use Rattle.run.specs.Code.{farthest}
 use Rattle.patch.specs.Entry.{AdvancedBy}
@@ -22,7 +21,7 @@ use Rattle.rules.specs.Table.{typesOf}
 use Rattle.run.specs.Laws.Taken.{takenNode}
 use borrow.Author.Tests.{not-true, not-false}
 use Rattle.patch.specs.Snapshot.{Standing, MovedAs, olds}
-use Rattle.patch.proofs.Branches.{forked-at, fork-inside, branch-below, kept-visitable, kept-refused, kept-near, kept-standing, kept-broken, kept-answer}
+use Rattle.patch.proofs.Branches.{forked-at, fork-inside, branch-below, kept-visitable, kept-refused, kept-near, kept-broken, kept-answer}
 use borrow.Fn.Kinds.{In, Out}
 use Rattle.patch.proofs.statement.+branch+iterate+kept+looped+parts+pay+sequence+turn+turns+visit.Lts-kept as lts
 use Rattle.numbers.specs.Measured.{at-measure, below-measure}
@@ -83,8 +82,12 @@ module _ (t : ℕ) where
       ∙ ap (λ (z : ℤ). takenNode (s .args .t .now) (s .args .node) (holds z)) (word (c .before .before) ∙ sym (forked-at (s .pre .1) .condition))
 
   -- the walk behind the head
-  step : (c : At lts.After-advanced) → AdvancedBy (1 + 2 * length (listAt (start (c .before .before) .args .lists .now) (start (c .before .before) .args .node)) + start (c .before .before) .args .length) (start (c .before .before) .args .reached) (c .advanced .result)
-  step c = let s = start (c .before .before) in subst (λ (n : ℕ). AdvancedBy (1 + 2 * n + s .args .length) (s .args .reached) (c .advanced .result)) (wide (c .before .before)) (c .advanced .ensures)
+  step : (c : At lts.After-advanced)
+      → let s = start (c .before .before) .args in
+      AdvancedBy (1 + 2 * length (listAt (s .lists .now) (s .node)) + s .length) (s .reached) (c .advanced .result)
+  step c =
+      let s = start (c .before .before) in
+      subst (λ (n : ℕ). AdvancedBy (1 + 2 * n + s .args .length) (s .args .reached) (c .advanced .result)) (wide (c .before .before)) (c .advanced .ensures)
 
   -- the head is inside, in the old record and in the new one
   inside : (c : At lts.After-width) → start c .args .reached .from + (1 + 2 * c .width .result + start c .args .length) ≤ length (start c .args .old .now)
@@ -97,7 +100,10 @@ module _ (t : ℕ) where
   near c = omega (arith, inside c, start c .pre .1 .entered .sound .place)
 
   -- the snapshot after, and what was laid of it
-  standing : (c : At lts.After-enum-told) → Standing (start (took (visited c) .before) .args .t .now) (start (took (visited c) .before) .args .lists .now) (start (took (visited c) .before) .args .node) (start (took (visited c) .before) .args .old .now) (start (took (visited c) .before) .args .reached .from + 1 + took (visited c) .before .width .result)
+  standing : (c : At lts.After-enum-told)
+      → let w = took (visited c) .before in
+      let s = start w .args in
+      Standing (s .t .now) (s .lists .now) (s .node) (s .old .now) (s .reached .from + 1 + w .width .result)
   standing c =
       let w = took (visited c) .before in
       let s = start w in
@@ -119,20 +125,20 @@ module _ (t : ℕ) where
   visit-requires c κs =
       let a = c .before in
       let h = start (a .before .before) .pre in
-      (omega (arith, h .0, same (a .before), branch-below (h .1) (holds (h .1 .fork .condition))), kept-visitable (h .1) (step a) (a .before .taken .result) (same (a .before)))
+      (omega (arith, h .0, same (a .before), branch-below (h .1) (holds (h .1 .fork .condition))), kept-visitable (h .1) (step a) (same (a .before)))
 
   refused-returns : At lts.Need-returns
   refused-returns c =
       let v = c .before .before .before in
       let s = start (took v .before) in
-      kept-refused (s .pre .1) (step (v .before .before)) (took v .taken .result) (same (took v)) (v .visit .result) (s .args .out .now) (v .visit .last .1 .1 .1 .1 .1 .1 .1 .1 .0) (v .visit .ensures) (c .enum-told2 .given .1) (v .visit .last .1 .1 .1 .1 .1 .1 .1 .1 .0)
+      kept-refused (s .pre .1) (step (v .before .before)) (same (took v)) (v .visit .result) _ _ (v .visit .ensures) (c .enum-told2 .given .1) _
 
   move-requires : At lts.Need-move-snapshot-requires
   move-requires c κs =
       let e = c .before .before .before .before in
       let v = visited e in
       let s = start (took v .before) in
-      (standing e, (kept-near (s .pre .1) (step (v .before .before)) (took v .taken .result) (same (took v)) (v .visit .result) (s .args .out .now) (v .visit .last .1 .1 .1 .1 .1 .1 .1 .1 .0) (v .visit .ensures) (e .enum-told .given .1), omega (arith, near (took v .before))))
+      (standing e, (kept-near (s .pre .1) (step (v .before .before)) (same (took v)) (v .visit .result) _ _ (v .visit .ensures) (e .enum-told .given .1), omega (arith, near (took v .before))))
 
   broken-returns : At lts.Need-returns-2
   broken-returns c =
@@ -140,8 +146,8 @@ module _ (t : ℕ) where
       let e = gone m in
       let v = visited e in
       let s = start (took v .before) in
-      kept-broken (s .pre .1) (step (v .before .before)) (took v .taken .result) (same (took v)) (v .visit .result) (s .args .out .now) (v .visit .last .1 .1 .1 .1 .1 .1 .1 .1 .0) (v .visit .ensures) (e .enum-told .given .1)
-      (m .move-snapshot .result) (m .move-snapshot .last .1 .1 .1 .1 .1 .1 .0) (moves m) (not-true _ (c .before .if1 .taken)) (c .stopped .result) (c .stopped .ensures) (m .move-snapshot .last .1 .1 .1 .1 .1 .1 .0)
+      kept-broken (s .pre .1) (step (v .before .before)) (same (took v)) (v .visit .result) _ _ (v .visit .ensures) (e .enum-told .given .1)
+      (m .move-snapshot .result) _ (moves m) (not-true _ (c .before .if1 .taken)) (c .stopped .result) (c .stopped .ensures) _
 
   returns : At lts.Need-returns-3
   returns c =
@@ -150,8 +156,8 @@ module _ (t : ℕ) where
       let e = gone m in
       let v = visited e in
       let s = start (took v .before) in
-      kept-answer (s .pre .1) (step (v .before .before)) (took v .taken .result) (same (took v)) (v .visit .result) (s .args .out .now) (v .visit .last .1 .1 .1 .1 .1 .1 .1 .1 .0) (v .visit .ensures) (e .enum-told .given .1)
-      (m .move-snapshot .result) (m .move-snapshot .last .1 .1 .1 .1 .1 .1 .0) (moves m) (not-false _ (p .before .before .if1 .left)) (p .put .last .0)
+      kept-answer (s .pre .1) (step (v .before .before)) (same (took v)) (v .visit .result) _ _ (v .visit .ensures) (e .enum-told .given .1)
+      (m .move-snapshot .result) _ (moves m) (not-false _ (p .before .before .if1 .left)) (p .put .last .0)
       (p .put .ensures ∙ ap (set (m .move-snapshot .last .1 .1 .1 .1 .1 .1 .0) (s .args .reached .at)) (word (took v .before .before)))
 
   -- the needs in the order of the code; a name marks one with a thought in it

@@ -1,14 +1,12 @@
 -- `looped` in the cycle: the head of the repeat, and then its iterations.
 -- Assumes nothing.
-use mathlib.Core.Path.{_≡_, sym, ap, _∙_, subst}
+use mathlib.Core.Path.{_≡_, _∙_}
 use Prim.Native.Nat.{ℕ}
 use native.Mathlib.Omega.{arith}
 use borrow.Author.Needs.{needs}
-use lib.IntN.{ℤ}
 use mir.Syntax.{w64}
 use mir.Val.{toZ, ofZ}
 use Rattle.run.specs.Laws.Numbers.{word-back}
-use Rattle.patch.specs.Statement.{Counted, IteratesTo}
 use Rattle.patch.proofs.Looped.{looped-refused, looped-counted, looped-answer}
 use borrow.Fn.Kinds.{In, Out}
 use Rattle.patch.proofs.statement.+branch+iterate+kept+looped+parts+pay+sequence+turn+turns+visit.Lts-looped as lts
@@ -53,21 +51,20 @@ module _ (t : ℕ) where
       let k = c .before in
       let f = counted k in
       let s = start f in
-      (omega (arith, s .pre .0), subst (λ (z : ℤ). Counted (s .args .t .now) (s .args .base) (s .args .lists .now) (s .args .node) z (k .before .counted2 .given .0 .1 .0) (s .args .old .now) (s .args .end) (s .args .reached)) (sym (back k)) (looped-counted (s .pre .1) (f .count .result) (s .args .out .now) (f .count .last .1 .1 .1 .1 .1 .1 .1 .0) (f .count .ensures) (k .before .counted2 .given .1)))
+      (omega (arith, s .pre .0), looped-counted (s .pre .1) (f .count .result) _ _ (f .count .ensures) (k .before .counted2 .given .1) (back k))
 
   refused-returns : At lts.Need-returns
   refused-returns c =
       let f = c .before .before .before .before .before in
       let s = start f in
-      looped-refused (s .pre .1) (f .count .result) (s .args .out .now) (f .count .last .1 .1 .1 .1 .1 .1 .1 .0) (f .count .ensures) (c .before .before .counted .given .1) (c .stopped .result) (c .stopped .ensures) (f .count .last .1 .1 .1 .1 .1 .1 .1 .0)
+      looped-refused (s .pre .1) (f .count .result) _ _ (f .count .ensures) (c .before .before .counted .given .1) (c .stopped .result) (c .stopped .ensures) _
 
   returns : At lts.Need-returns-2
   returns c =
       let k = c .before .before .before in
       let f = counted k in
       let s = start f in
-      looped-answer (s .pre .1) (f .count .result) (s .args .out .now) (f .count .last .1 .1 .1 .1 .1 .1 .1 .0) (f .count .ensures) (k .before .counted2 .given .1) (c .before .iterate .result) (c .before .iterate .last .1 .1 .1 .1 .1 .1 .1 .1 .1 .0)
-      (subst (λ (z : ℤ). IteratesTo (s .args .t .now) (s .args .node) z (s .args .old .now) (s .args .end) (s .args .reached) (c .before .iterate .result) (f .count .last .1 .1 .1 .1 .1 .1 .1 .0) (c .before .iterate .last .1 .1 .1 .1 .1 .1 .1 .1 .1 .0)) (back k) (c .before .iterate .ensures))
+      looped-answer (s .pre .1) (f .count .result) _ _ (f .count .ensures) (k .before .counted2 .given .1) (back k) (c .before .iterate .result) _ (c .before .iterate .ensures)
 
   -- the needs in the order of the code; a name marks one with a thought in it
   pub looped-meets : {M : Type 1} → lts.Closed calls given looped.Post M

@@ -1,6 +1,5 @@
 -- `parts` in the cycle: the function of the entry's kind is called, and its answer handed on.
 -- Assumes nothing.
-use mathlib.Core.Path.{_≡_, _∙_}
 use Prim.Native.Nat.{ℕ}
 use native.Mathlib.Omega.{arith}
 use borrow.Author.Needs.{needs}

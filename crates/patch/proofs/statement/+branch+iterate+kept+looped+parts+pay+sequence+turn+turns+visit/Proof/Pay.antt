@@ -50,21 +50,21 @@ module _ (t : ℕ) where
   refused-returns c =
       let p = c .before .before .before in
       let u = steps p in
-      pay-refused (start u .pre .1) (u .stepped .ensures) (p .parts .result) (start u .args .out .now) (p .parts .last .1 .1 .1 .1 .1 .1 .1 .0) (p .parts .ensures) (c .enum-told2 .given .1) (p .parts .last .1 .1 .1 .1 .1 .1 .1 .0)
+      pay-refused (start u .pre .1) (u .stepped .ensures) (p .parts .result) (start u .args .out .now) _ (p .parts .ensures) (c .enum-told2 .given .1) _
 
   opens : At lts.Need-open-requires
   opens c κs =
       let e = c .before in
       let p = walked e in
       let u = steps p in
-      pay-openable (start u .pre .1) (u .stepped .ensures) (p .parts .result) (start u .args .out .now) (p .parts .last .1 .1 .1 .1 .1 .1 .1 .0) (p .parts .ensures) (e .enum-told .given .1)
+      pay-openable (start u .pre .1) (u .stepped .ensures) (p .parts .result) (start u .args .out .now) _ (p .parts .ensures) (e .enum-told .given .1)
 
   returns : At lts.Need-returns-3
   returns c =
       let e = c .before .before .before in
       let p = walked e in
       let u = steps p in
-      pay-answer (start u .pre .1) (u .stepped .ensures) (p .parts .result) (start u .args .out .now) (p .parts .last .1 .1 .1 .1 .1 .1 .1 .0) (p .parts .ensures) (e .enum-told .given .1) (c .before .«open» .last .0) (c .before .«open» .ensures)
+      pay-answer (start u .pre .1) (u .stepped .ensures) (p .parts .result) (start u .args .out .now) _ (p .parts .ensures) (e .enum-told .given .1) (c .before .«open» .last .0) (c .before .«open» .ensures)
 
   -- the needs in the order of the code; a name marks one with a thought in it
   pub pay-meets : {M : Type 1} → lts.Closed calls given pay.Post M
@@ -76,8 +76,8 @@ module _ (t : ℕ) where
       (λ c. search needs) (λ c. search needs)
       (λ c. c .before .before .before .parts .kept .1 .1 .1 .1 .1 .1 .1 .0)
       refused-returns
-      (λ c. let p = walked (c .before) in omega (arith, pay-place (start (steps p) .pre .1) (steps p .stepped .ensures) (p .parts .result) (start (steps p) .args .out .now) (p .parts .last .1 .1 .1 .1 .1 .1 .1 .0) (p .parts .ensures) (c .before .enum-told .given .1)))
-      (λ c. let p = walked (c .before) in omega (arith, pay-left (start (steps p) .pre .1) (steps p .stepped .ensures) (p .parts .result) (start (steps p) .args .out .now) (p .parts .last .1 .1 .1 .1 .1 .1 .1 .0) (p .parts .ensures) (c .before .enum-told .given .1)))
+      (λ c. let p = walked (c .before) in omega (arith, pay-place (start (steps p) .pre .1) (steps p .stepped .ensures) (p .parts .result) (start (steps p) .args .out .now) _ (p .parts .ensures) (c .before .enum-told .given .1)))
+      (λ c. let p = walked (c .before) in omega (arith, pay-left (start (steps p) .pre .1) (steps p .stepped .ensures) (p .parts .result) (start (steps p) .args .out .now) _ (p .parts .ensures) (c .before .enum-told .given .1)))
       opens
       (λ c. c .before .«open» .kept .0 ∙ walked (c .before .before .before) .parts .kept .1 .1 .1 .1 .1 .1 .1 .0)
       returns

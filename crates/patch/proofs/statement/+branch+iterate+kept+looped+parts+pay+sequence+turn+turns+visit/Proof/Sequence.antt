@@ -57,7 +57,7 @@ module _ (t : ℕ) where
       let v = c .before .before .before in
       let a = read-first v in
       let s = start a in
-      first-refused (s .pre .1) _ (first a) (v .visit .result) (s .args .out .now) (v .visit .last .1 .1 .1 .1 .1 .1 .1 .1 .0) (v .visit .ensures) (c .enum-told2 .given .1) (v .visit .last .1 .1 .1 .1 .1 .1 .1 .1 .0)
+      first-refused (s .pre .1) _ (first a) (v .visit .result) _ _ (v .visit .ensures) (c .enum-told2 .given .1) _
 
   second-requires : At lts.Need-visit-requires-2
   second-requires c κs =
@@ -67,7 +67,7 @@ module _ (t : ℕ) where
       let a = read-first v in
       let s = start a in
       let second = read-node (s .pre .1 .known) (λ n. n .b) (b .child-b .ensures) in
-      (omega (arith, s .pre .0, second-below (s .pre .1) _ second), second-visitable (s .pre .1) _ (first a) (v .visit .result) (s .args .out .now) (v .visit .last .1 .1 .1 .1 .1 .1 .1 .1 .0) (v .visit .ensures) (e .enum-told .given .1) _ second)
+      (omega (arith, s .pre .0, second-below (s .pre .1) _ second), second-visitable (s .pre .1) _ (first a) (v .visit .result) _ _ (v .visit .ensures) (e .enum-told .given .1) _ second)
 
   returns : At lts.Need-returns-2
   returns c =
@@ -76,8 +76,8 @@ module _ (t : ℕ) where
       let v = visited e in
       let a = read-first v in
       let s = start a in
-      sequence-answer (s .pre .1) _ (first a) (v .visit .result) (s .args .out .now) (v .visit .last .1 .1 .1 .1 .1 .1 .1 .1 .0) (v .visit .ensures) (e .enum-told .given .1) _ (read-node (s .pre .1 .known) (λ n. n .b) (b .child-b .ensures))
-      (c .before .visit2 .result) (c .before .visit2 .last .1 .1 .1 .1 .1 .1 .1 .1 .0) (c .before .visit2 .ensures)
+      sequence-answer (s .pre .1) _ (first a) (v .visit .result) _ _ (v .visit .ensures) (e .enum-told .given .1) _ (read-node (s .pre .1 .known) (λ n. n .b) (b .child-b .ensures))
+      (c .before .visit2 .result) _ (c .before .visit2 .ensures)
 
   -- the needs in the order of the code; a name marks one with a thought in it
   pub sequence-meets : {M : Type 1} → lts.Closed calls given sequence.Post M

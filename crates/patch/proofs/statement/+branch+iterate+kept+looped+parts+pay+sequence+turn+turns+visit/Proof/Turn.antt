@@ -1,6 +1,6 @@
 -- `turn` in the cycle: the body is visited, and the snapshot behind it takes its changes.
 -- Assumes nothing.
-use mathlib.Core.Path.{_≡_, _∙_}
+use mathlib.Core.Path.{_∙_}
 use Prim.Native.Nat.{ℕ}
 use native.Mathlib.Omega.{arith}
 use borrow.Author.Needs.{needs}
@@ -41,20 +41,20 @@ module _ (t : ℕ) where
   refused-returns c =
       let v = c .before .before .before in
       let s = start v in
-      turn-refused (s .pre .1) (v .visit .result) (s .args .out .now) (v .visit .last .1 .1 .1 .1 .1 .1 .1 .1 .0) (v .visit .ensures) (c .enum-told2 .given .1) (v .visit .last .1 .1 .1 .1 .1 .1 .1 .1 .0)
+      turn-refused (s .pre .1) (v .visit .result) _ _ (v .visit .ensures) (c .enum-told2 .given .1) _
 
   snapped-requires : At lts.Need-snapped-requires
   snapped-requires c κs =
       let v = visited (c .before) in
       let s = start v in
-      (named-of (s .pre .1 .known), turn-sound (s .pre .1) (v .visit .result) (s .args .out .now) (v .visit .last .1 .1 .1 .1 .1 .1 .1 .1 .0) (v .visit .ensures) (c .before .enum-told .given .1))
+      (named-of (s .pre .1 .known), turn-sound (s .pre .1) (v .visit .result) _ _ (v .visit .ensures) (c .before .enum-told .given .1))
 
   returns : At lts.Need-returns-2
   returns c =
       let e = c .before .before .before in
       let v = visited e in
       let s = start v in
-      turn-answer (s .pre .1) (v .visit .result) (s .args .out .now) (v .visit .last .1 .1 .1 .1 .1 .1 .1 .1 .0) (v .visit .ensures) (e .enum-told .given .1) (c .before .snapped .result) (c .before .snapped .last .1 .1 .1 .1 .1 .1 .0) (c .before .snapped .ensures)
+      turn-answer (s .pre .1) (v .visit .result) _ _ (v .visit .ensures) (e .enum-told .given .1) (c .before .snapped .result) _ (c .before .snapped .ensures)
 
   -- the needs in the order of the code; a name marks one with a thought in it
   pub turn-meets : {M : Type 1} → lts.Closed calls given turn.Post M

@@ -1,6 +1,6 @@
 -- `turns` in the cycle. The loop's invariant: so many iterations have come to this; its measure is the iterations left.
 -- Assumes nothing.
-use mathlib.Core.Path.{_≡_, _∙_}
+use mathlib.Core.Path.{_∙_}
 use Prim.Native.Nat.{ℕ, _-_, _≤_}
 use native.Mathlib.Omega.{arith}
 use borrow.Author.Needs.{needs}
@@ -52,14 +52,14 @@ module _ (t : ℕ) where
   turn-requires c κs =
       let l = c .before .before in
       let s = start l in
-      (omega (arith, s .pre .0), again-turnable (s .pre .1) (s .args .count) (s .args .out .now) (l .loop .i) (l .loop .so-far) (l .loop .out) (so-far l))
+      (omega (arith, s .pre .0), again-turnable (s .pre .1) (s .args .count) _ (l .loop .i) (l .loop .so-far) (l .loop .out) (so-far l))
 
   refused-returns : At lts.Need-returns
   refused-returns c =
       let v = c .before .before .before in
       let l = head v in
       let s = start l in
-      again-refused (s .pre .1) (s .args .count) (s .args .out .now) (l .loop .i) (l .loop .so-far) (l .loop .out) (so-far l) (v .before .before .loop-test .taken) (v .turn .result) (v .turn .last .1 .1 .1 .1 .1 .1 .1 .1 .0) (v .turn .ensures) (c .enum-told2 .given .1) (v .turn .last .1 .1 .1 .1 .1 .1 .1 .1 .0)
+      again-refused (s .pre .1) (s .args .count) _ (l .loop .i) (l .loop .so-far) (l .loop .out) (so-far l) (v .before .before .loop-test .taken) (v .turn .result) _ (v .turn .ensures) (c .enum-told2 .given .1) _
 
   again : At lts.Need-loop-again
   again c =
@@ -67,13 +67,13 @@ module _ (t : ℕ) where
       let v = e .before .before .before in
       let l = head v in
       let s = start l in
-      (omega arith, λ h. again-done h (s .args .count) (s .args .out .now) (l .loop .i) (l .loop .so-far) (l .loop .out) (l .loop .inv .1 h) (v .before .before .loop-test .taken) (v .turn .result) (v .turn .last .1 .1 .1 .1 .1 .1 .1 .1 .0) (v .turn .ensures) (e .enum-told .given .1))
+      (omega arith, λ h. again-done h (s .args .count) _ (l .loop .i) (l .loop .so-far) (l .loop .out) (l .loop .inv .1 h) (v .before .before .loop-test .taken) (v .turn .result) _ (v .turn .ensures) (e .enum-told .given .1))
 
   returns : At lts.Need-returns-2
   returns c =
       let l = c .before in
       let s = start l in
-      turns-all (s .pre .1) (s .args .count) (s .args .out .now) (l .loop .i) (l .loop .so-far) (l .loop .out) (so-far l) (c .loop-test .left) (l .loop .inv .0)
+      turns-all (s .pre .1) (s .args .count) _ (l .loop .i) (l .loop .so-far) (l .loop .out) (so-far l) (c .loop-test .left) (l .loop .inv .0)
 
   -- the needs in the order of the code; a name marks one with a thought in it
   pub turns-meets : {M : Type 1} → lts.Closed calls given turns.Post M
