@@ -3,6 +3,7 @@
 use compare::case::{bytes_of_hex, hex_of_bytes, parse_file, print, Case};
 use compare::{define, execute, generate, interpret, listing, sessions, table, tally, teeth, text};
 use std::io::{Read, Write};
+use std::path::Path;
 
 const HELP: &str = "compare: an independent interpreter, and the cases it is compared on
 
@@ -31,7 +32,8 @@ const HELP: &str = "compare: an independent interpreter, and the cases it is com
                                  fail unless there are enough of every sort, with
                                  --patches unless there are COUNT patches, half
                                  of them of damaged records, and chains
-  compare list FILE              the listing of one session's bytes
+  compare list FILE [PROGRAM]    the listing of one session's bytes: the interpreter's,
+                                 or what the program writes
   compare listed FILE [PROGRAM]  hold the interpreter, and the program patchlist of
                                  this repository or another, to the listings of a
                                  file of sessions
@@ -75,7 +77,8 @@ fn main() {
         ["tally", file, "--patches", count] => {
             number(count, "count").and_then(|count| command_tally(file, Wanted::Patches(count)))
         }
-        ["list", file] => command_list(file),
+        ["list", file] => command_list(file, None),
+        ["list", file, program] => command_list(file, Some(program)),
         ["listed", file] => command_listed(file, None),
         ["listed", file, program] => command_listed(file, Some(program)),
         ["listings", seed, count] => command_listings(seed, count, None),
@@ -237,10 +240,16 @@ fn command_tally(file: &str, wanted: Wanted) -> Ended {
     Ok(!missing.is_empty() as i32)
 }
 
-// compare list FILE
-fn command_list(file: &str) -> Ended {
-    show(&listing::listing(&read(file)?));
-    Ok(0)
+// compare list FILE [PROGRAM]
+fn command_list(file: &str, program: Option<&str>) -> Ended {
+    let session = read(file)?;
+    let Some(program) = program else {
+        show(&listing::listing(&session));
+        return Ok(0);
+    };
+    let output = execute::ran(Path::new(program), session)?;
+    show(&output.stdout);
+    Ok(!output.status.success() as i32)
 }
 
 // compare listed FILE [PROGRAM]
