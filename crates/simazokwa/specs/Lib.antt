@@ -1,3 +1,4 @@
 pub mod Words
 pub mod Counted
 pub mod Laid
+pub mod Demand
