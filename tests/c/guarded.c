@@ -2,12 +2,12 @@
  * The C library on buffers that stand between pages that nobody may touch: a read or write outside a lent buffer
  * ends the test, and so does a write to a buffer that is only lent for reading.
  *
- *     guarded CASES [SEED COUNT]
+ *     guarded CASES [SEED EACH]
  *
- * CASES is a file in the format of compare/cases: each is called, and result, answer and record are held to it.
- * COUNT further calls are those of the file with damaged tables, words and lengths. Of these the answer is not known
- * beforehand: it has to be well formed, and the same wherever the buffers stand. Last come calls with an empty buffer,
- * and tables nested 24 deep with the stack that they take.
+ * CASES is a file in the format of compare/cases, or - for standard input: each case is called, and result, answer
+ * and record are held to it. Behind each come EACH further calls, the same with damaged tables, words and lengths. Of
+ * these the answer is not known beforehand: it has to be well formed, and the same wherever the buffers stand. Last
+ * come calls with an empty buffer, and tables nested 24 deep with the stack that they take.
  */
 #define _GNU_SOURCE
 #include "simazokwa.h"
@@ -23,7 +23,6 @@
 
 #define MOST_WORDS 8192
 #define MOST_BYTES (8 * MOST_WORDS) /* of an area, a multiple of the page size */
-#define MOST_CASES 100000
 #define STACK (1 << 20)      /* of a thread */
 #define MOST_STACK (160 << 10) /* what simazokwa.h says of a call, on x86-64 */
 
@@ -454,23 +453,53 @@ static size_t deepest(struct call *call, unsigned kind)
     return run < patch ? patch : run;
 }
 
+/* The most stack that a call nested 24 deep took, whatever it is nested in. */
+static size_t most_stack(void)
+{
+    static struct call call;
+    static const unsigned kinds[] = {0, 18, 19, 20};
+    size_t most = 0;
+    for (size_t i = 0; i < sizeof kinds / sizeof *kinds; i++) {
+        size_t taken = deepest(&call, kinds[i]);
+        if (most < taken) most = taken;
+    }
+#ifdef __x86_64__
+    if (most > MOST_STACK) fail("%zu bytes of stack", most);
+#endif
+    return most;
+}
+
 /* ---- all of it */
 
-int main(int argc, char **argv)
+/* A line of the file holds, and so many damaged calls beside it stay inside. */
+static void held(char *text, long each)
 {
     static struct call call, damaged;
     static struct outcome expected;
-    static char *text[MOST_CASES];
+    read_case(text, &call, &expected);
+    struct outcome *out = called(&call);
+    stage = "as the file says";
+    same(&call, &expected, out);
+    for (long i = 0; i < each; i++) {
+        damaged = call;
+        for (uint64_t n = 1 + draw(3); n > 0; n--) damage(&damaged);
+        called(&damaged);
+    }
+}
+
+int main(int argc, char **argv)
+{
     struct sigaction caught = {.sa_handler = touched};
-    long made = 0, read = 0, count;
-    size_t size = 0, most = 0;
+    char *text = NULL;
+    size_t size = 0;
+    long read = 0, each;
     FILE *file;
     if (argc != 2 && argc != 4) {
-        fprintf(stderr, "usage: guarded CASES [SEED COUNT]\n");
+        fprintf(stderr, "usage: guarded CASES [SEED EACH]\n");
         return 2;
     }
     state = argc == 4 ? 2 * strtoull(argv[2], NULL, 10) + 1 : 1;
-    count = argc == 4 ? strtol(argv[3], NULL, 10) : 0;
+    each = argc == 4 ? strtol(argv[3], NULL, 10) : 0;
     sigaction(SIGSEGV, &caught, NULL);
     sigaction(SIGBUS, &caught, NULL);
     table_area = reserve();
@@ -479,37 +508,13 @@ int main(int argc, char **argv)
     answer_area = reserve();
     record_area = reserve();
 
-    if ((file = fopen(argv[1], "r")) == NULL) fail("cannot read %s", argv[1]);
-    for (; read < MOST_CASES && getline(&text[read], &size, file) > 0; size = 0) read++;
-    if (read == 0 || read == MOST_CASES) fail("no cases, or too many");
-    for (line = 1; line <= read; line++) {
-        char *copy = strdup(text[line - 1]);
-        read_case(copy, &call, &expected);
-        struct outcome *out = called(&call);
-        stage = "as the file says";
-        same(&call, &expected, out);
-        free(copy);
-    }
-    while (made < count) {
-        line = 1 + (long)draw((uint64_t)read);
-        char *copy = strdup(text[line - 1]);
-        read_case(copy, &call, &expected);
-        for (int i = 0; i < 8 && made < count; i++, made++) {
-            damaged = call;
-            for (uint64_t n = 1 + draw(3); n > 0; n--) damage(&damaged);
-            called(&damaged);
-        }
-        free(copy);
-    }
+    file = strcmp(argv[1], "-") == 0 ? stdin : fopen(argv[1], "r");
+    if (file == NULL) fail("cannot read %s", argv[1]);
+    for (line = 1; getline(&text, &size, file) > 0; line++, read++) held(text, each);
+    if (read == 0) fail("no cases");
     line = 0;
     empties();
-    for (unsigned kind = 0; kind <= 20; kind = kind == 0 ? 18 : kind + 1) {
-        size_t taken = deepest(&call, kind);
-        if (most < taken) most = taken;
-    }
-#ifdef __x86_64__
-    if (most > MOST_STACK) fail("%zu bytes of stack", most);
-#endif
-    printf("guarded: %ld cases hold, %ld damaged calls stay inside, at most %zu bytes of stack\n", read, made, most);
+    size_t most = most_stack();
+    printf("guarded: %ld cases hold, %ld damaged calls stay inside, at most %zu bytes of stack\n", read, read * each, most);
     return 0;
 }
