@@ -21,21 +21,21 @@ use Rattle.table.specs.declared.answer.Refusal.{Refusal}
 use Rattle.table.specs.declared.answer.Outcome.the-variants.{Refused as Stop}
 use Rattle.run.specs.Code.{farthest}
 use Rattle.run.specs.Laws.Statements.{AsAssign, as-assign, assign-tag}
-use Rattle.patch.specs.Change.{Near, AllNear}
-use Rattle.patch.specs.Old.{part}
-use Rattle.patch.specs.Expression.{ShiftedAs, Shiftable, ShiftsTo}
-use Rattle.patch.specs.Entry.{Sound, Came, whole, WalkAs}
+use Rattle.pieces.specs.Change.{Near, AllNear}
+use Rattle.pieces.specs.Old.{part}
+use Rattle.pieces.specs.Expression.{ShiftedAs, Shiftable, ShiftsTo}
+use Rattle.pieces.specs.Entry.{Sound, Came, whole, WalkAs}
 use Rattle.patch.specs.Statement.{Node, Enterable, WalksTo, AssignedAs}
-use Rattle.patch.specs.Laws.Old.{part-none, part-next}
-use Rattle.patch.specs.Laws.Moved.{set-each}
-use Rattle.patch.specs.Laws.Expression.{shift-sized}
-use Rattle.patch.specs.declared.entry.Reached.{Reached}
-use Rattle.patch.specs.declared.expression.Shifted.{Shifted}
-use Rattle.patch.specs.declared.expression.Shifted.the-variants.{Is, Refused}
-use Rattle.patch.proofs.Shifts.{Got, got, got-near, is-refused, refused-of}
+use Rattle.pieces.specs.Laws.Old.{part-none, part-next}
+use Rattle.pieces.specs.Laws.Moved.{set-each}
+use Rattle.pieces.specs.Laws.Expression.{shift-sized}
+use Rattle.pieces.specs.declared.entry.Reached.{Reached}
+use Rattle.pieces.specs.declared.expression.Shifted.{Shifted}
+use Rattle.pieces.specs.declared.expression.Shifted.the-variants.{Is, Refused}
+use Rattle.pieces.specs.Laws.Shifts.{Got, got, got-near, is-refused, refused-of}
 use Rattle.patch.proofs.Nodes.{for-tree, as-run, read-node}
 use Rattle.patch.proofs.Heads.{part-shiftable}
-use Rattle.patch.proofs.Changes.{near-kept, kept}
+use Rattle.pieces.specs.Laws.Changes.{near-kept, kept}
 
 -- ---- the walk behind an assign
 

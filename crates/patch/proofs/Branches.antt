@@ -26,14 +26,16 @@ use Rattle.table.specs.declared.answer.Changes.{Changes}
 use Rattle.table.specs.declared.answer.Outcome.the-variants.{Accepted, Refused}
 use Rattle.run.specs.Laws.Branches.{if-laid, if-long}
 use Rattle.run.specs.Laws.Taken.{AsIf, as-if, takenNode, taken-here, taken-small, taken-below}
-use Rattle.patch.specs.Change.{AllNear}
-use Rattle.patch.specs.Old.{part}
-use Rattle.patch.specs.Snapshot.{Standing, MovedAs, olds}
-use Rattle.patch.specs.Laws.Snapshot.{olds-long, moved-long}
-use Rattle.patch.specs.Laws.Head.{ForkAt, fork-at, accepted-of}
-use Rattle.patch.specs.Entry.{Sound, Came, VisitAs, whole, WalkAs, AdvancedBy}
-use Rattle.patch.specs.Statement.{Node, Visitable, VisitsTo, forkOf, forkLaid, Forked, KeepsTo}
-use Rattle.patch.specs.declared.entry.Reached.{Reached}
+use Rattle.pieces.specs.Change.{AllNear}
+use Rattle.pieces.specs.Old.{part}
+use Rattle.pieces.specs.Snapshot.{Standing, MovedAs, olds}
+use Rattle.pieces.specs.Laws.Snapshot.{olds-long, moved-long}
+use Rattle.patch.specs.Laws.Head.{ForkAt, fork-at}
+use Rattle.rules.specs.Laws.Outcome.{accepted-of}
+use Rattle.pieces.specs.Entry.{Sound, Came, VisitAs, whole, WalkAs, AdvancedBy}
+use Rattle.patch.specs.Statement.{Node, Visitable, VisitsTo}
+use Rattle.patch.specs.Branch.{forkOf, forkLaid, Forked, KeepsTo}
+use Rattle.pieces.specs.declared.entry.Reached.{Reached}
 use Rattle.patch.proofs.Walks.{Gone, gone, handed-up, sound-advanced}
 use Rattle.patch.proofs.Nodes.{list-is, named-of, child, same-tree}
 use Rattle.patch.proofs.Sequences.{visit-last}

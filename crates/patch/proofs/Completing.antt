@@ -22,7 +22,7 @@ use Rattle.table.specs.declared.answer.Answer.{Answer}
 use Rattle.run.specs.Words.{Held}
 use Rattle.run.specs.Code.{farthest}
 use Rattle.run.specs.Laws.Completed.{record-laid, cut-laid, record-long}
-use Rattle.patch.specs.declared.entry.Reached.{Reached}
+use Rattle.pieces.specs.declared.entry.Reached.{Reached}
 use Rattle.patch.specs.Call.{Completable, finished}
 
 -- the first words of what is padded

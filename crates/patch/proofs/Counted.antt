@@ -14,12 +14,13 @@ use Rattle.rules.specs.Table.{typesOf, Part, statement}
 use Rattle.rules.specs.Laws.Parts.{nodeAt, partAt}
 use Rattle.table.specs.Lists.{listAt}
 use Rattle.run.specs.Laws.Loops.{AsRepeat, as-repeat}
-use Rattle.patch.specs.Old.{part}
-use Rattle.patch.specs.Laws.Snapshot.{olds-long, moved-long}
+use Rattle.pieces.specs.Old.{part}
+use Rattle.pieces.specs.Laws.Snapshot.{olds-long, moved-long}
 use Rattle.patch.specs.Laws.Head.{CountAt, count-at}
-use Rattle.patch.specs.Entry.{Sound}
-use Rattle.patch.specs.Statement.{Node, Counted, Count, countOf}
-use Rattle.patch.specs.declared.entry.Reached.{Reached}
+use Rattle.pieces.specs.Entry.{Sound}
+use Rattle.patch.specs.Statement.{Node}
+use Rattle.patch.specs.Loop.{Counted, Count, countOf}
+use Rattle.pieces.specs.declared.entry.Reached.{Reached}
 use Rattle.patch.proofs.Nodes.{list-is, named-of, as-run, same-tree}
 
 module _ {bytes : List ℕ} {base : ℕ} {lists : List ℕ} {node : ℕ} {new : ℤ} {size : ℕ} {old : List ℤ} {end : ℕ} {s : Reached} (h : Counted bytes base lists node new size old end s) where

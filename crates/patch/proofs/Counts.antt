@@ -22,15 +22,17 @@ use Rattle.table.specs.Paper.{refusalFor}
 use Rattle.run.specs.Code.{Number}
 use Rattle.run.specs.Laws.Numbers.{plain}
 use Rattle.run.specs.Laws.Loops.{AsRepeat, as-repeat, repeat-small, repeat-variables}
-use Rattle.patch.specs.Old.{part}
-use Rattle.patch.specs.Expression.{operandOf, ShiftedAs, Shiftable, OperandTo}
-use Rattle.patch.specs.Statement.{Node, Enterable, HeadTo, Count, countOf, CountAs, CountsTo}
-use Rattle.patch.specs.declared.entry.Reached.{Reached}
-use Rattle.patch.specs.declared.expression.Shifted.{Shifted}
-use Rattle.patch.specs.declared.expression.Shifted.the-variants.{Refused}
+use Rattle.pieces.specs.Old.{part}
+use Rattle.pieces.specs.Expression.{operandOf, ShiftedAs, Shiftable, OperandTo}
+use Rattle.patch.specs.Statement.{Node, Enterable}
+use Rattle.patch.specs.Head.{HeadTo}
+use Rattle.patch.specs.Loop.{Count, countOf, CountAs, CountsTo}
+use Rattle.pieces.specs.declared.entry.Reached.{Reached}
+use Rattle.pieces.specs.declared.expression.Shifted.{Shifted}
+use Rattle.pieces.specs.declared.expression.Shifted.the-variants.{Refused}
 use Rattle.patch.proofs.Nodes.{for-tree, as-run}
 use Rattle.patch.proofs.Heads.{HeadGot, head-broken, part-shiftable}
-use Rattle.patch.proofs.Changes.{kept}
+use Rattle.pieces.specs.Laws.Changes.{kept}
 
 pub number-byte : tyOf 0 ≡ Ty.number
 unfolding tyOf

@@ -17,11 +17,11 @@ use Rattle.rules.specs.Patch.{Visited, Walked, Turn, noSteps, stepsOf, finished
 use Rattle.table.specs.Lists.{listAt}
 use Rattle.table.specs.Paper.{refusalFor}
 use Rattle.table.specs.declared.answer.Outcome.the-variants.{Refused}
-use Rattle.patch.specs.Old.{part}
-use Rattle.patch.specs.Laws.Old.{part-none, part-next}
-use Rattle.patch.specs.Entry.{WalkAs}
-use Rattle.patch.specs.Statement.{turnAt, Endable, EndsTo, ShrinksTo}
-use Rattle.patch.specs.declared.entry.Reached.{Reached}
+use Rattle.pieces.specs.Old.{part}
+use Rattle.pieces.specs.Laws.Old.{part-none, part-next}
+use Rattle.pieces.specs.Entry.{WalkAs}
+use Rattle.patch.specs.Loop.{turnAt, Endable, EndsTo, ShrinksTo}
+use Rattle.pieces.specs.declared.entry.Reached.{Reached}
 
 -- iterations fall away, where none is left of the new
 loop-dropped : (types : List Ty) (body : ℕ → List ℤ → List ℤ → Paper.Outcome Visited) (fresh : ℕ → List ℤ → Paper.Outcome Done) (vs : List ℕ) (t : Turn) (n : ℕ) → 0 < n

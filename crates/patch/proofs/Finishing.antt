@@ -25,7 +25,7 @@ use Rattle.table.specs.declared.answer.Store.{Store}
 use Rattle.run.specs.Call.{Answers}
 use Rattle.run.specs.Code.{farthest}
 use Rattle.run.specs.Laws.Completed.{record-long}
-use Rattle.patch.specs.declared.entry.Reached.{Reached}
+use Rattle.pieces.specs.declared.entry.Reached.{Reached}
 use Rattle.patch.specs.Call.{Sums, Finishable, Completable, CompletesTo, PatchAnswers, rootVisit, finished}
 use Rattle.patch.proofs.Inputs.{sums-length}
 use Rattle.patch.proofs.Headers.{Whole, inputs-are, outputs-are}

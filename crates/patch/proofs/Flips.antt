@@ -36,15 +36,17 @@ use Rattle.run.specs.Laws.Numbers.{word, word-back}
 use Rattle.run.specs.Laws.Statements.{read-field, listed-at, still-fine, bounded, RunGot, run-got, accepted-refused}
 use Rattle.run.specs.Laws.Branches.{if-long}
 use Rattle.run.specs.Laws.Taken.{takenNode}
-use Rattle.patch.specs.Change.{Near}
-use Rattle.patch.specs.Snapshot.{olds, plusEach}
-use Rattle.patch.specs.Laws.Snapshot.{in-near, good-near}
-use Rattle.patch.specs.Entry.{Came, WalkAs, whole}
-use Rattle.patch.specs.Statement.{Node, forkLaid, Forked, FlipsTo, Freshened, FreshAs}
-use Rattle.patch.specs.declared.entry.Reached.{Reached}
+use Rattle.pieces.specs.Change.{Near}
+use Rattle.pieces.specs.Snapshot.{olds, plusEach}
+use Rattle.pieces.specs.Laws.Snapshot.{in-near, good-near}
+use Rattle.pieces.specs.Entry.{Came, WalkAs, whole}
+use Rattle.patch.specs.Statement.{Node}
+use Rattle.patch.specs.Branch.{forkLaid, Forked, FlipsTo}
+use Rattle.patch.specs.Fresh.{Freshened, FreshAs}
+use Rattle.pieces.specs.declared.entry.Reached.{Reached}
 use Rattle.patch.proofs.Branches.{fork-laid, forked-at, fork-inside, if-each, branch-here, branch-known}
 use Rattle.patch.proofs.Fresh.{Started, store-is, store-known, news-long, settledAs, fresh-came}
-use Rattle.patch.proofs.Changes.{near-kept, kept-near, kept}
+use Rattle.pieces.specs.Laws.Changes.{near-kept, kept-near, kept}
 use Rattle.patch.proofs.Nodes.{same-tree}
 
 -- a truth turned round

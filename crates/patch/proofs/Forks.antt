@@ -21,14 +21,16 @@ use Rattle.rules.specs.Laws.Parts.{nodeAt, partAt}
 use Rattle.table.specs.Lists.{listAt}
 use Rattle.table.specs.Paper.{refusalFor}
 use Rattle.run.specs.Laws.Taken.{AsIf, as-if, if-small, if-variables}
-use Rattle.patch.specs.Old.{part, Inside}
-use Rattle.patch.specs.Snapshot.{Snapped, FitsAs}
-use Rattle.patch.specs.Expression.{ShiftedAs, Shiftable, ShiftsTo}
-use Rattle.patch.specs.Statement.{Node, Enterable, HeadTo, forkOf, ForkAs, ForksTo}
-use Rattle.patch.specs.Laws.Snapshot.{read-at}
-use Rattle.patch.specs.declared.entry.Reached.{Reached}
-use Rattle.patch.specs.declared.expression.Shifted.{Shifted}
-use Rattle.patch.specs.declared.expression.Shifted.the-variants.{Refused}
+use Rattle.pieces.specs.Old.{part, Inside}
+use Rattle.pieces.specs.Snapshot.{Snapped, FitsAs}
+use Rattle.pieces.specs.Expression.{ShiftedAs, Shiftable, ShiftsTo}
+use Rattle.patch.specs.Statement.{Node, Enterable}
+use Rattle.patch.specs.Head.{HeadTo}
+use Rattle.patch.specs.Branch.{forkOf, ForkAs, ForksTo}
+use Rattle.pieces.specs.Laws.Snapshot.{read-at}
+use Rattle.pieces.specs.declared.entry.Reached.{Reached}
+use Rattle.pieces.specs.declared.expression.Shifted.{Shifted}
+use Rattle.pieces.specs.declared.expression.Shifted.the-variants.{Refused}
 use Rattle.patch.proofs.Nodes.{for-tree, named-of}
 use Rattle.patch.proofs.Heads.{HeadGot, head-broken, part-shiftable}
 

@@ -19,13 +19,15 @@ use Rattle.table.specs.Lists.{listAt}
 use Rattle.run.specs.Code.{farthest}
 use Rattle.run.specs.Statement.{Known}
 use Rattle.run.specs.declared.statement.Ran.{Ran}
-use Rattle.patch.specs.Change.{AllNear}
-use Rattle.patch.specs.Snapshot.{Standing, olds, plusEach}
-use Rattle.patch.specs.Laws.Old.{part-none}
-use Rattle.patch.specs.Laws.Snapshot.{good-near, olds-long, moved-plus, moved-long, started-fine, started-back, settled-near}
-use Rattle.patch.specs.Entry.{Sound, Came}
-use Rattle.patch.specs.Statement.{Node, FreshAs, LastAt}
-use Rattle.patch.specs.declared.entry.Reached.{Reached}
+use Rattle.pieces.specs.Change.{AllNear}
+use Rattle.pieces.specs.Snapshot.{Standing, olds, plusEach}
+use Rattle.pieces.specs.Laws.Old.{part-none}
+use Rattle.pieces.specs.Laws.Snapshot.{good-near, olds-long, moved-plus, moved-long, started-fine, started-back, settled-near}
+use Rattle.pieces.specs.Entry.{Sound, Came}
+use Rattle.patch.specs.Statement.{Node}
+use Rattle.patch.specs.Fresh.{FreshAs}
+use Rattle.patch.specs.Loop.{LastAt}
+use Rattle.pieces.specs.declared.entry.Reached.{Reached}
 
 -- ---- before the run
 

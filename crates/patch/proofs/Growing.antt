@@ -25,18 +25,20 @@ use Rattle.run.specs.Code.{farthest}
 use Rattle.run.specs.Statement.{RanAs, RepeatsTo, Repeatable}
 use Rattle.run.specs.declared.statement.Ran.{Ran}
 use Rattle.run.specs.Laws.Statements.{RunGot, run-got, accepted-refused}
-use Rattle.patch.specs.Change.{AllNear}
-use Rattle.patch.specs.Old.{part}
-use Rattle.patch.specs.Snapshot.{olds, plusEach}
-use Rattle.patch.specs.Laws.Old.{part-none}
-use Rattle.patch.specs.Laws.Snapshot.{good-near}
-use Rattle.patch.specs.Entry.{Came, WalkAs, whole}
-use Rattle.patch.specs.Statement.{Node, FreshAs, turnAt, LastAt, Endable, EndsTo}
-use Rattle.patch.specs.declared.entry.Reached.{Reached}
+use Rattle.pieces.specs.Change.{AllNear}
+use Rattle.pieces.specs.Old.{part}
+use Rattle.pieces.specs.Snapshot.{olds, plusEach}
+use Rattle.pieces.specs.Laws.Old.{part-none}
+use Rattle.pieces.specs.Laws.Snapshot.{good-near}
+use Rattle.pieces.specs.Entry.{Came, WalkAs, whole}
+use Rattle.patch.specs.Statement.{Node}
+use Rattle.patch.specs.Fresh.{FreshAs}
+use Rattle.patch.specs.Loop.{turnAt, LastAt, Endable, EndsTo}
+use Rattle.pieces.specs.declared.entry.Reached.{Reached}
 use Rattle.patch.proofs.Nodes.{for-tree, list-is, named-of}
-use Rattle.patch.proofs.Turns.{list-long}
+use Rattle.table.specs.Laws.Row.{row-long}
 use Rattle.patch.proofs.Fresh.{from-last, store-fine, store-known, store-is, settledAs, fresh-came}
-use Rattle.patch.specs.Laws.Head.{holds-at}
+use Rattle.rules.specs.Laws.Outcome.{holds-at}
 
 -- so many more iterations run fresh, where none is left of the old
 pub loop-more : (types : List Ty) (body : ℕ → List ℤ → List ℤ → Paper.Outcome Visited) (fresh : ℕ → List ℤ → Paper.Outcome Done) (vs : List ℕ) (t : Turn) (n : ℕ) → 0 < n
@@ -134,7 +136,7 @@ module _ {bytes : List ℕ} {base : ℕ} {lists : List ℕ} {node body last : �
         short : length (d .words) ≤ weight * d .steps
         short =
             let row = named-of k .row in
-            let few : length vs ≤ 32 = omega (arith, row .few, list-long row) in
+            let few : length vs ≤ 32 = omega (arith, row .few, row-long row) in
             holds-at (got .comes) (bounded-iterate (run b) vs few (words-bounded b (bodied .small)) more (s .left) values)
 
         pub grown-answer : 0 < more → (r : Reached) → FreshAs bytes lists node old last (s .from) ran s r → EndsTo bytes lists node body 0 more last old (s .from) s r out after

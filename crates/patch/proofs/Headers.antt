@@ -24,7 +24,7 @@ use Rattle.rules.specs.Laws.Outcome.{Holds, value, holds-need}
 use Rattle.rules.specs.Laws.Header.{Sized}
 use Rattle.patch.specs.Call.{HeadedAs}
 use Rattle.patch.proofs.Inputs.{many}
-use Rattle.patch.proofs.Changes.{kept}
+use Rattle.pieces.specs.Laws.Changes.{kept}
 
 pub between-as : {low high z low′ high′ z′ : ℤ} → low ≡ low′ → high ≡ high′ → z ≡ z′ → between low high z ≡ between low′ high′ z′
 between-as {z = z} {low′ = low′} {high′ = high′} e f g = ap₂ {C = Bool} (λ (a b : ℤ). between a b z) e f ∙ ap (between low′ high′) g

@@ -22,14 +22,16 @@ use Rattle.table.specs.Lists.{listAt}
 use Rattle.table.specs.Paper.{refusalFor}
 use Rattle.table.specs.declared.answer.Outcome.the-variants.{Refused}
 use Rattle.run.specs.Code.{farthest}
-use Rattle.patch.specs.Old.{part}
-use Rattle.patch.specs.Snapshot.{Named, Patched, PatchedAs, patched}
-use Rattle.patch.specs.Expression.{Shiftable}
-use Rattle.patch.specs.Entry.{Sound, AdvancedBy}
-use Rattle.patch.specs.Statement.{Node as Known, Enterable, Head, headOf, Headable, HeadAs, HeadTo, SnapAs, SnapsTo}
-use Rattle.patch.specs.Laws.Old.{part-none, part-next}
+use Rattle.pieces.specs.Old.{part}
+use Rattle.pieces.specs.Snapshot.{Named, Patched, PatchedAs, patched}
+use Rattle.pieces.specs.Expression.{Shiftable}
+use Rattle.pieces.specs.Entry.{Sound, AdvancedBy}
+use Rattle.patch.specs.Statement.{Node as Known, Enterable}
+use Rattle.patch.specs.Head.{Head, headOf, Headable, HeadAs, HeadTo}
+use Rattle.patch.specs.Loop.{SnapAs, SnapsTo}
+use Rattle.pieces.specs.Laws.Old.{part-none, part-next}
 use Rattle.patch.specs.Laws.Head.{HeadAt, head-at}
-use Rattle.patch.specs.declared.entry.Reached.{Reached}
+use Rattle.pieces.specs.declared.entry.Reached.{Reached}
 use Rattle.patch.proofs.Nodes.{named-of}
 
 -- ---- the first word, and the snapshot behind it

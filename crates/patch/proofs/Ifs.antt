@@ -22,17 +22,18 @@ use Rattle.rules.specs.Laws.Parts.{partAt}
 use Rattle.table.specs.declared.answer.Refusal.{Refusal}
 use Rattle.table.specs.declared.answer.Outcome.the-variants.{Refused as Stopped}
 use Rattle.run.specs.Laws.Taken.{AsIf, as-if}
-use Rattle.patch.specs.Old.{part}
+use Rattle.pieces.specs.Old.{part}
 use Rattle.patch.specs.Laws.Turns.{branchOf, walk-if}
-use Rattle.patch.specs.Entry.{whole, WalkAs}
-use Rattle.patch.specs.Statement.{Enterable, WalksTo, forkOf, forkLaid, ForkAs, ForksTo, Forked, KeepsTo, FlipsTo}
-use Rattle.patch.specs.declared.entry.Reached.{Reached}
-use Rattle.patch.specs.declared.expression.Shifted.{Shifted}
-use Rattle.patch.specs.declared.expression.Shifted.the-variants.{Is, Refused}
+use Rattle.pieces.specs.Entry.{whole, WalkAs}
+use Rattle.patch.specs.Statement.{Enterable, WalksTo}
+use Rattle.patch.specs.Branch.{forkOf, forkLaid, ForkAs, ForksTo, Forked, KeepsTo, FlipsTo}
+use Rattle.pieces.specs.declared.entry.Reached.{Reached}
+use Rattle.pieces.specs.declared.expression.Shifted.{Shifted}
+use Rattle.pieces.specs.declared.expression.Shifted.the-variants.{Is, Refused}
 use Rattle.patch.proofs.Nodes.{for-tree}
-use Rattle.patch.specs.Change.{Near}
+use Rattle.pieces.specs.Change.{Near}
 use Rattle.patch.proofs.Branches.{forked-at}
-use Rattle.patch.proofs.Shifts.{is-refused, is-of, refused-of}
+use Rattle.pieces.specs.Laws.Shifts.{is-refused, is-of, refused-of}
 
 module _ {bytes : List ℕ} {base : ℕ} {lists : List ℕ} {node : ℕ} {old : List ℤ} {end : ℕ} {s : Reached} (h : Enterable bytes base lists node old end s 19) where
   abbrev types : List Ty

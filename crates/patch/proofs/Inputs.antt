@@ -24,7 +24,7 @@ use Rattle.rules.specs.Laws.Header.{Sized}
 use Rattle.rules.specs.Laws.Call.{fit-long, fit-good, legal-long}
 use Rattle.run.specs.Laws.Numbers.{mag-in, word}
 use Rattle.run.specs.Laws.Fitting.{typeBy, refuted, types-long, type-at}
-use Rattle.patch.specs.Change.{Near, AllNear}
+use Rattle.pieces.specs.Change.{Near, AllNear}
 use Rattle.patch.specs.Call.{legalChange, Sums}
 
 -- ---- values and changes are near

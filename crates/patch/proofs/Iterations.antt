@@ -21,10 +21,10 @@ use Rattle.rules.specs.Patch.{Visited, Counts, Turn, noSteps, both, stepsOf, vi
 use Rattle.table.specs.Lists.{listAt}
 use Rattle.table.specs.declared.answer.Refusal.{Refusal}
 use Rattle.table.specs.declared.answer.Outcome.the-variants.{Accepted, Refused}
-use Rattle.patch.specs.Entry.{Sound}
-use Rattle.patch.specs.Statement.{Turned, turnOf, turnsOf, turnAt, behind, LastAt, Turnable, TurnCame, lastOf, TurnAs, TurnTo, TurnsTo}
+use Rattle.pieces.specs.Entry.{Sound}
+use Rattle.patch.specs.Loop.{Turned, turnOf, turnsOf, turnAt, behind, LastAt, Turnable, TurnCame, lastOf, TurnAs, TurnTo, TurnsTo}
 use Rattle.patch.specs.Laws.Turns.{both-assoc}
-use Rattle.patch.specs.declared.entry.Reached.{Reached}
+use Rattle.pieces.specs.declared.entry.Reached.{Reached}
 use Rattle.patch.proofs.Walks.{came-then}
 use Rattle.patch.proofs.Nodes.{for-tree}
 use Rattle.run.specs.Laws.Statements.{accepted-refused}

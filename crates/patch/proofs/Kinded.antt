@@ -13,7 +13,7 @@ use Rattle.rules.specs.Laws.Parts.{nodeAt, statement-of}
 use Rattle.run.specs.Laws.Statements as Run
 use Rattle.run.specs.Laws.Compound.{last-kind}
 use Rattle.patch.specs.Statement.{Inner, Enterable}
-use Rattle.patch.specs.declared.entry.Reached.{Reached}
+use Rattle.pieces.specs.declared.entry.Reached.{Reached}
 
 module _ {bytes : List ℕ} {base : ℕ} {lists : List ℕ} {node : ℕ} {old : List ℤ} {end : ℕ} {s : Reached} (h : Inner bytes base lists node old end s) where
   pub enter : {kind : ℕ} → nodeAt bytes node .kind ≡ kind → Enterable bytes base lists node old end s kind

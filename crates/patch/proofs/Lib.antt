@@ -1,8 +1,6 @@
 pub mod Assigns
 pub mod Branches
-pub mod Changes
 pub mod Completing
-pub mod Copying
 pub mod Counted
 pub mod Counts
 pub mod Endings
@@ -20,17 +18,11 @@ pub mod Kinded
 pub mod Looped
 pub mod Loops
 pub mod Nodes
-pub mod Operators
-pub mod Patching
 pub mod Pays
-pub mod Recalling
 pub mod Repeats
 pub mod Rooting
 pub mod Sequences
-pub mod Shifts
 pub mod Shrinking
-pub mod Snapshots
 pub mod Testing
-pub mod Turns
 pub mod Visits
 pub mod Walks

@@ -19,12 +19,13 @@ use Rattle.table.specs.Lists.{listAt}
 use Rattle.table.specs.declared.answer.Refusal.{Refusal}
 use Rattle.table.specs.declared.answer.Changes.{Changes}
 use Rattle.table.specs.declared.answer.Outcome.the-variants.{Accepted, Refused}
-use Rattle.patch.specs.Old.{part}
-use Rattle.patch.specs.Snapshot.{Named, Patched, patched}
-use Rattle.patch.specs.Laws.Snapshot.{PatchedAt, patched-at, olds-long, moved-long}
-use Rattle.patch.specs.Entry.{Sound, Came, VisitAs, AdvancedBy}
-use Rattle.patch.specs.Statement.{Visitable, VisitsTo, Turned, turnOf, turnAt, behind, LastAt, Turnable, TurnCame, lastOf, TurnAs, SnapAs, SnapsTo, TurnTo}
-use Rattle.patch.specs.declared.entry.Reached.{Reached}
+use Rattle.pieces.specs.Old.{part}
+use Rattle.pieces.specs.Snapshot.{Named, Patched, patched}
+use Rattle.pieces.specs.Laws.Snapshot.{PatchedAt, patched-at, olds-long, moved-long}
+use Rattle.pieces.specs.Entry.{Sound, Came, VisitAs, AdvancedBy}
+use Rattle.patch.specs.Statement.{Visitable, VisitsTo}
+use Rattle.patch.specs.Loop.{Turned, turnOf, turnAt, behind, LastAt, Turnable, TurnCame, lastOf, TurnAs, SnapAs, SnapsTo, TurnTo}
+use Rattle.pieces.specs.declared.entry.Reached.{Reached}
 use Rattle.patch.proofs.Walks.{Gone, gone, handed-up, sound-advanced}
 use Rattle.patch.proofs.Nodes.{for-tree, named-of}
 

@@ -16,7 +16,7 @@ use Rattle.run.specs.Code.{farthest}
 use Rattle.run.specs.Statement.{Enterable as RunEnterable}
 use Rattle.run.specs.Laws.Statements as Run
 use Rattle.run.specs.Laws.Compound.{named}
-use Rattle.patch.specs.Snapshot.{Named}
+use Rattle.pieces.specs.Snapshot.{Named}
 use Rattle.patch.specs.Statement.{Node}
 
 -- two trees of one node are one

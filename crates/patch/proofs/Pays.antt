@@ -23,12 +23,12 @@ use Rattle.table.specs.declared.answer.Outcome.the-variants.{Accepted, Refused}
 use Rattle.run.specs.Code.{farthest}
 use Rattle.run.specs.Statement.{Opened}
 use Rattle.run.specs.Laws.Compound.{three-before}
-use Rattle.patch.specs.Old.{part, Inside}
-use Rattle.patch.specs.Laws.Old.{part-over}
-use Rattle.patch.specs.Entry.{Came, whole, Steppable, Stepped}
-use Rattle.patch.specs.Entry as Spec
+use Rattle.pieces.specs.Old.{part, Inside}
+use Rattle.pieces.specs.Laws.Old.{part-over}
+use Rattle.pieces.specs.Entry.{Came, whole, Steppable, Stepped}
+use Rattle.pieces.specs.Entry as Spec
 use Rattle.patch.specs.Statement.{Node, Payable, PaysTo, Inner, WalksTo}
-use Rattle.patch.specs.declared.entry.Reached.{Reached}
+use Rattle.pieces.specs.declared.entry.Reached.{Reached}
 use Rattle.patch.proofs.Walks.{Gone, gone, handed-up, sound-stepped}
 use Rattle.patch.proofs.Nodes.{for-tree, node-is, row-of}
 

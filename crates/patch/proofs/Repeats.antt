@@ -24,12 +24,13 @@ use Rattle.table.specs.declared.answer.Refusal.{Refusal}
 use Rattle.table.specs.declared.answer.Changes.{Changes}
 use Rattle.table.specs.declared.answer.Outcome.the-variants.{Accepted, Refused}
 use Rattle.run.specs.Laws.Loops.{repeat-laid, repeat-long}
-use Rattle.patch.specs.Old.{part}
-use Rattle.patch.specs.Laws.Head.{accepted-of}
+use Rattle.pieces.specs.Old.{part}
+use Rattle.rules.specs.Laws.Outcome.{accepted-of}
 use Rattle.patch.specs.Laws.Turns.{joined, loop-turns}
-use Rattle.patch.specs.Entry.{Sound, Came, Ends, whole, WalkAs, AdvancedBy}
-use Rattle.patch.specs.Statement.{Node, Counted, Count, countOf, countLaid, repeated, IteratesTo, Turned, turnsOf, turnAt, LastAt, Turnable, visited, TurnCame, lastOf, TurnsTo, Endable, EndsTo}
-use Rattle.patch.specs.declared.entry.Reached.{Reached}
+use Rattle.pieces.specs.Entry.{Sound, Came, Ends, whole, WalkAs, AdvancedBy}
+use Rattle.patch.specs.Statement.{Node}
+use Rattle.patch.specs.Loop.{Counted, Count, countOf, countLaid, repeated, IteratesTo, Turned, turnsOf, turnAt, LastAt, Turnable, visited, TurnCame, lastOf, TurnsTo, Endable, EndsTo}
+use Rattle.pieces.specs.declared.entry.Reached.{Reached}
 use Rattle.patch.proofs.Walks.{Gone, gone, sound-advanced}
 use Rattle.patch.proofs.Nodes.{same-tree}
 use Rattle.run.specs.Laws.Statements.{accepted-refused}

@@ -22,7 +22,7 @@ use Rattle.rules.specs.Table.{headerLength, variables, nodes, nodesAt, typesOf,
 use Rattle.rules.specs.Run.{mostSteps}
 use Rattle.rules.specs.Patch.{Visited, visit, walk}
 use Rattle.rules.specs.Call.{Finished, Header, header, lengthOf, limitOf, inputsOf, legal, within, finishPatch}
-use Rattle.rules.specs.Laws.Outcome.{Holds, value, holds-bind, holds-need, holds-if}
+use Rattle.rules.specs.Laws.Outcome.{Holds, value, holds-bind, holds-need, holds-if, holds-at}
 use Rattle.rules.specs.Laws.Call.{legal-long, length-padded, at-padded, in-limits}
 use Rattle.rules.specs.Laws.Value.{zero-in}
 use Rattle.rules.specs.Laws.Entry.{Fine}
@@ -40,17 +40,16 @@ use Rattle.run.specs.Call.{Answers}
 use Rattle.run.specs.Code.{farthest}
 use Rattle.run.specs.Laws.Calls.{reason-of}
 use Rattle.run.specs.Laws.Statements.{accepted-refused}
-use Rattle.patch.specs.Change.{Near, AllNear}
-use Rattle.patch.specs.Old.{part}
-use Rattle.patch.specs.Entry.{Came, VisitAs}
+use Rattle.pieces.specs.Change.{Near, AllNear}
+use Rattle.pieces.specs.Old.{part}
+use Rattle.pieces.specs.Entry.{Came, VisitAs}
 use Rattle.patch.specs.Statement.{Visitable, VisitsTo}
-use Rattle.patch.specs.declared.entry.Reached.{Reached}
+use Rattle.pieces.specs.declared.entry.Reached.{Reached}
 use Rattle.patch.specs.Call.{Ready, tests, Startable, rootVisit, startAt, startOf, Finishable, PatchAnswers}
 use Rattle.patch.proofs.Inputs.{legal-near}
 use Rattle.patch.proofs.Headers.{Whole, header-whole, size-cast}
 use Rattle.patch.proofs.Testing.{ended, ending, finish-by}
-use Rattle.patch.proofs.Changes.{kept}
-use Rattle.patch.specs.Laws.Head.{holds-at}
+use Rattle.pieces.specs.Laws.Changes.{kept}
 
 -- a word that the code casts to a count
 pub cast-back : (z : ℤ) → SFits w64 z → natAbs (kept z) ≡ natAbs z

@@ -16,19 +16,18 @@ use Rattle.rules.specs.Tree.{Statement, nodeOf, mentions}
 use Rattle.rules.specs.Table.{typesOf}
 use Rattle.rules.specs.Run.{opening, mostSteps}
 use Rattle.rules.specs.Patch.{Entry, Visited, Walked, Walk, both, stepsOf, cut, ends, meet, skipped, paid, visit, walk}
-use Rattle.rules.specs.Laws.Outcome.{Holds, value, vacant, holds-bind, holds-need, holds-any, holds-map}
+use Rattle.rules.specs.Laws.Outcome.{Holds, value, vacant, holds-bind, holds-need, holds-any, holds-map, holds-at}
 use Rattle.rules.specs.Laws.Parts.{nodeAt, partAt}
 use Rattle.rules.specs.Laws.Size.{Small}
 use Rattle.table.specs.declared.answer.Refusal.{Refusal}
 use Rattle.table.specs.declared.answer.Outcome.the-variants.{Accepted, Refused}
 use Rattle.run.specs.Laws.Sequences.{AsSequence, as-sequence, both-small}
-use Rattle.patch.specs.Old.{part}
-use Rattle.patch.specs.Entry.{Came, Ends, VisitAs, whole, WalkAs}
+use Rattle.pieces.specs.Old.{part}
+use Rattle.pieces.specs.Entry.{Came, Ends, VisitAs, whole, WalkAs}
 use Rattle.patch.specs.Statement.{Visitable, VisitsTo, Enterable, WalksTo}
-use Rattle.patch.specs.declared.entry.Reached.{Reached}
+use Rattle.pieces.specs.declared.entry.Reached.{Reached}
 use Rattle.patch.proofs.Walks.{Gone, gone, handed-up, ends-map, came-then}
 use Rattle.patch.proofs.Nodes.{for-tree, as-run, child}
-use Rattle.patch.specs.Laws.Head.{holds-at}
 
 -- ---- a last part leaves nothing behind
 

@@ -22,13 +22,14 @@ use Rattle.table.specs.declared.answer.Refusal.{Refusal}
 use Rattle.table.specs.declared.answer.Store.{Store}
 use Rattle.table.specs.declared.answer.Outcome.the-variants.{Refused}
 use Rattle.run.specs.declared.statement.Ran.{Ran}
-use Rattle.patch.specs.Old.{part, Inside}
-use Rattle.patch.specs.Snapshot.{Standing, FitsAs, olds, plusEach}
-use Rattle.patch.specs.Laws.Old.{part-long, part-drop}
-use Rattle.patch.specs.Laws.Snapshot.{ReadAt, read-at}
-use Rattle.patch.specs.Entry.{Came, WalkAs, whole}
-use Rattle.patch.specs.Statement.{FreshAs, turnAt, LastAt, Shrinkable, ShrinksTo}
-use Rattle.patch.specs.declared.entry.Reached.{Reached}
+use Rattle.pieces.specs.Old.{part, Inside}
+use Rattle.pieces.specs.Snapshot.{Standing, FitsAs, olds, plusEach}
+use Rattle.pieces.specs.Laws.Old.{part-long, part-drop}
+use Rattle.pieces.specs.Laws.Snapshot.{ReadAt, read-at}
+use Rattle.pieces.specs.Entry.{Came, WalkAs, whole}
+use Rattle.patch.specs.Fresh.{FreshAs}
+use Rattle.patch.specs.Loop.{turnAt, LastAt, Shrinkable, ShrinksTo}
+use Rattle.pieces.specs.declared.entry.Reached.{Reached}
 use Rattle.patch.proofs.Nodes.{named-of}
 use Rattle.patch.proofs.Fresh.{from-last, store-fine, store-back, fresh-came}
 

@@ -24,7 +24,7 @@ use Rattle.run.specs.Call.{Answers}
 use Rattle.run.specs.Laws.Tests.{refused-some, accepted-of, stays}
 use Rattle.patch.specs.Call.{HeadedAs, Ready, tests, Tested, Startable, rootVisit, finished, PatchAnswers}
 use Rattle.patch.proofs.Headers.{Whole, header-whole}
-use Rattle.patch.specs.Laws.Head.{holds-at}
+use Rattle.rules.specs.Laws.Outcome.{holds-at}
 
 -- what the test of the changes makes of a program and a header
 abbrev decided : Program → Header → Bool → Paper.Outcome Ready

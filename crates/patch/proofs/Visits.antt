@@ -14,12 +14,12 @@ use Rattle.rules.specs.Patch.{Entry, Visited, Walk, meet, skipped, paid, visit,
 use Rattle.table.specs.Lists.{listAt}
 use Rattle.table.specs.Paper.{refusalFor}
 use Rattle.table.specs.declared.answer.Outcome.the-variants.{Refused}
-use Rattle.patch.specs.Old.{part, Inside}
-use Rattle.patch.specs.Entry.{MetAs, Sound, VisitAs, SkipsTo}
+use Rattle.pieces.specs.Old.{part, Inside}
+use Rattle.pieces.specs.Entry.{MetAs, Sound, VisitAs, SkipsTo}
 use Rattle.patch.specs.Statement.{Node, Visitable, VisitsTo, Payable, PaysTo}
-use Rattle.patch.specs.declared.entry.Met.{Met}
-use Rattle.patch.specs.declared.entry.Met.the-variants.{Is, Broken}
-use Rattle.patch.specs.declared.entry.Reached.{Reached}
+use Rattle.pieces.specs.declared.entry.Met.{Met}
+use Rattle.pieces.specs.declared.entry.Met.the-variants.{Is, Broken}
+use Rattle.pieces.specs.declared.entry.Reached.{Reached}
 use Rattle.patch.proofs.Walks.{sound-before}
 use Rattle.patch.proofs.Nodes.{for-tree, node-is, list-is}
 

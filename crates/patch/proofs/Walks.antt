@@ -16,10 +16,10 @@ use Rattle.table.specs.declared.answer.Refusal.{Refusal}
 use Rattle.table.specs.declared.answer.Changes.{Changes}
 use Rattle.table.specs.declared.answer.Outcome.the-variants.{Accepted, Refused}
 use Rattle.run.specs.Code.{farthest}
-use Rattle.patch.specs.Change.{AllNear}
-use Rattle.patch.specs.Old.{Inside}
-use Rattle.patch.specs.Entry.{Sound, Came, Ends, Stepped, AdvancedBy}
-use Rattle.patch.specs.declared.entry.Reached.{Reached}
+use Rattle.pieces.specs.Change.{AllNear}
+use Rattle.pieces.specs.Old.{Inside}
+use Rattle.pieces.specs.Entry.{Sound, Came, Ends, Stepped, AdvancedBy}
+use Rattle.pieces.specs.declared.entry.Reached.{Reached}
 use Rattle.run.specs.Laws.Statements.{accepted-refused}
 
 -- ---- how a walk ends

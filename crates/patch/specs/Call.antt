@@ -22,9 +22,9 @@ use Rattle.table.specs.declared.answer.Outcome.the-variants.{Accepted}
 use Rattle.table.specs.declared.answer.Store.{Store}
 use Rattle.run.specs.Call.{Answers}
 use Rattle.run.specs.Code.{farthest}
-use Rattle.patch.specs.Change.{AllNear}
-use Rattle.patch.specs.Entry.{Came, VisitAs}
-use Rattle.patch.specs.declared.entry.Reached.{Reached}
+use Rattle.pieces.specs.Change.{AllNear}
+use Rattle.pieces.specs.Entry.{Came, VisitAs}
+use Rattle.pieces.specs.declared.entry.Reached.{Reached}
 
 -- ---- the header and the changes
 

@@ -1,9 +1,2 @@
-pub mod Climbing
-pub mod Entry
-pub mod Expression
 pub mod Head
-pub mod Moved
-pub mod Old
-pub mod Skipping
-pub mod Snapshot
 pub mod Turns

@@ -1,8 +1,7 @@
+pub mod Branch
 pub mod Call
-pub mod Change
-pub mod Entry
-pub mod Expression
+pub mod Fresh
+pub mod Head
 pub mod Laws
-pub mod Old
-pub mod Snapshot
+pub mod Loop
 pub mod Statement

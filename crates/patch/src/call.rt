@@ -1,9 +1,9 @@
 // The public patch: the tests in turn, the root's visit, the header in front of its entry, and zeros to the end; the room decides last.
-use crate::entry::Reached;
 use crate::header::header_fits;
 use crate::header::legal;
 use crate::header::sums;
 use crate::statement::visit;
+use pieces::entry::Reached;
 use run::call::refuse;
 use run::input::fits;
 use run::input::limit_of;

@@ -1,5 +1,5 @@
 // What a patch is handed beside the table: an old record's header, and one change for each variable.
-use crate::change::plus;
+use pieces::change::plus;
 use run::input::fits;
 use run::input::in_limits;
 use run::input::in_type;

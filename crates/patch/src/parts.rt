@@ -1,16 +1,16 @@
 // Parts of statements that hold no other entry to walk: assigns, the head of an if and of a repeat, and what is run fresh or dropped.
-use crate::change::plus;
-use crate::entry::Reached;
-use crate::entry::advanced;
-use crate::entry::stopped;
-use crate::expression::Shifted;
-use crate::expression::operand;
-use crate::expression::shift;
-use crate::snapshot::patch_snapshot;
-use crate::snapshot::settled;
-use crate::snapshot::snapshot_fits;
-use crate::snapshot::started;
-use crate::snapshot::width;
+use pieces::change::plus;
+use pieces::entry::Reached;
+use pieces::entry::advanced;
+use pieces::entry::stopped;
+use pieces::expression::Shifted;
+use pieces::expression::operand;
+use pieces::expression::shift;
+use pieces::snapshot::patch_snapshot;
+use pieces::snapshot::settled;
+use pieces::snapshot::snapshot_fits;
+use pieces::snapshot::started;
+use pieces::snapshot::width;
 use run::input::in_type;
 use run::statement::Ran;
 use run::statement::repeat;
@@ -25,10 +25,14 @@ use table::answer::Refusal;
 ghost use mathlib.Core.Path.{_≡_};
 ghost use Prim.Native.Nat.{_+_, _-_, _≤_, _<_};
 ghost use Rattle.run.specs.Code.{farthest};
-ghost use Rattle.patch.specs.Statement.{Enterable, WalksTo, AssignedAs, Headable, HeadTo, ForksTo, Forked, FlipsTo, Freshened, FreshAs, CountsTo, Endable, EndsTo, Shrinkable, ShrinksTo, SnapsTo};
-ghost use Rattle.patch.specs.Change.{Near};
-ghost use Rattle.patch.specs.Entry.{Sound};
-ghost use Rattle.patch.specs.Snapshot.{Named};
+ghost use Rattle.patch.specs.Statement.{Enterable, WalksTo, AssignedAs};
+ghost use Rattle.patch.specs.Head.{Headable, HeadTo};
+ghost use Rattle.patch.specs.Branch.{ForksTo, Forked, FlipsTo};
+ghost use Rattle.patch.specs.Fresh.{Freshened, FreshAs};
+ghost use Rattle.patch.specs.Loop.{CountsTo, Endable, EndsTo, Shrinkable, ShrinksTo, SnapsTo};
+ghost use Rattle.pieces.specs.Change.{Near};
+ghost use Rattle.pieces.specs.Entry.{Sound};
+ghost use Rattle.pieces.specs.Snapshot.{Named};
 
 // The walk with a variable's change set, behind the whole of its entry.
 fn assigned(reached: Reached, v: usize, change: i64, end: usize, length: usize) -> Reached

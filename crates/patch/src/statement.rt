@@ -1,21 +1,21 @@
 // Statements: the walk through an entry of the old record, with the new entry laid down from a place on.
-use crate::entry::Met;
-use crate::entry::Reached;
-use crate::entry::advanced;
-use crate::entry::meet;
-use crate::entry::skip;
-use crate::entry::stepped;
-use crate::entry::stopped;
-use crate::expression::Shifted;
 use crate::parts::assign;
 use crate::parts::count;
 use crate::parts::ended;
 use crate::parts::flipped;
 use crate::parts::fork;
 use crate::parts::snapped;
-use crate::snapshot::move_snapshot;
-use crate::snapshot::unchanged;
-use crate::snapshot::width;
+use pieces::entry::Met;
+use pieces::entry::Reached;
+use pieces::entry::advanced;
+use pieces::entry::meet;
+use pieces::entry::skip;
+use pieces::entry::stepped;
+use pieces::entry::stopped;
+use pieces::expression::Shifted;
+use pieces::snapshot::move_snapshot;
+use pieces::snapshot::unchanged;
+use pieces::snapshot::width;
 use run::statement::open;
 use run::statement::taken;
 use run::statement::times;
@@ -27,7 +27,9 @@ use table::answer::Outcome;
 use table::answer::Refusal;
 ghost use mathlib.Core.Path.{_≡_};
 ghost use Prim.Native.Nat.{_+_, _≤_};
-ghost use Rattle.patch.specs.Statement.{Visitable, VisitsTo, Payable, PaysTo, Inner, Enterable, WalksTo, Forked, KeepsTo, Counted, IteratesTo, Turnable, TurnsTo, TurnTo, lastOf};
+ghost use Rattle.patch.specs.Statement.{Visitable, VisitsTo, Payable, PaysTo, Inner, Enterable, WalksTo};
+ghost use Rattle.patch.specs.Branch.{Forked, KeepsTo};
+ghost use Rattle.patch.specs.Loop.{Counted, IteratesTo, Turnable, TurnsTo, TurnTo, lastOf};
 
 // The visit of the entry of the statement at a node: skipped where nothing that it mentions has changed, else walked.
 pub fn visit(

@@ -1,4 +1,5 @@
 pub mod Lists
+pub mod Row
 pub mod Nodes
 pub mod Sorts
 pub mod Made

@@ -19,6 +19,7 @@ use Rattle.rules.specs.Laws.Rising.{rising, rising-first, flagged, flaggedBy, t
 use Rattle.rules.specs.Laws.Variables.{varsAt, vars-at, rises-node, placeOf, fields, places, names, withOwn, Mentioning, mentioning}
 use Rattle.table.specs.Accepted.{AcceptedTable}
 use Rattle.table.specs.Lists.{listAt, Row, ListOf, Lists}
+use Rattle.table.specs.Laws.Row.{list-long, list-at}
 use Rattle.table.specs.Rows.{laid, laid-count, laid-list, laid-kept, laid-long, same-count, same-list}
 
 -- node m has its list
@@ -112,20 +113,11 @@ module _ (bytes : List ℕ) (table : AcceptedTable bytes) where
 
   -- a node's list holds its variables, each a variable of the table
   module _ (lists : List ℕ) (n : ℕ) (inside : n < 512) (long : length lists ≡ 16896) (right : Right bytes lists n) where
-    right-long : length (listAt lists n) ≡ getD lists (33 * n) 0
-    unfolding listAt
-    right-long =
-        let few = right .few in
-        length-take-le (getD lists (33 * n) 0) (drop (33 * n + 1) lists) (rw (length-drop (33 * n + 1) lists) (omega arith))
-
     right-at : (i : ℕ) → i < getD lists (33 * n) 0 → getD (varsAt bytes n) i 0 ≡ getD lists (33 * n + 1 + i) 0
-    unfolding listAt
-    right-at i h =
-        ap (λ (l : List ℕ). getD l i 0) (sym (right .list))
-        ∙ getD-take (getD lists (33 * n) 0) (drop (33 * n + 1) lists) i 0 h ∙ getD-drop (33 * n + 1) lists i 0
+    right-at i h = ap (λ (l : List ℕ). getD l i 0) (sym (right .list)) ∙ list-at lists n i h
 
     right-count : getD lists (33 * n) 0 ≡ length (varsAt bytes n)
-    right-count = sym right-long ∙ ap length (right .list)
+    right-count = sym (list-long lists n long inside (right .few)) ∙ ap length (right .list)
 
     right-row : Row (length (typesOf bytes)) lists n
     right-row = record {

@@ -17,38 +17,19 @@ use Rattle.rules.specs.Value.{Ty, at, inType}
 use Rattle.rules.specs.Tree.{Expression}
 use Rattle.rules.specs.Table.{typesOf}
 use Rattle.rules.specs.Patch.{Read, Shifted, Fork, read, readIn, readSnapshot, movedAll, shift}
-use Rattle.rules.specs.Laws.Outcome.{Holds, holds-of}
+use Rattle.rules.specs.Laws.Outcome.{refused-accepted, accepted-of, through, holds-at}
 use Rattle.rules.specs.Laws.Size.{operations}
 use Rattle.table.specs.Lists.{listAt}
-use Rattle.patch.specs.Change.{Near, AllNear}
-use Rattle.patch.specs.Old.{part, Inside}
-use Rattle.patch.specs.Snapshot.{Named, Standing, olds, patched}
-use Rattle.patch.specs.Expression.{operandOf}
-use Rattle.patch.specs.Statement.{Head, headOf, forkOf, Count, countOf}
-use Rattle.patch.specs.Laws.Old.{part-none, part-next, part-long, part-drop}
-use Rattle.patch.specs.Laws.Snapshot.{ReadAt, read-at, PatchedAt, patched-at}
-use Rattle.patch.specs.Laws.Expression.{Sized, shift-sized, shift-near, operand-sized, operand-number}
-
--- ---- what an accepted do block went through
-
-pub record Through {A B : Type 0} (m : Paper.Outcome A) (next : A → Paper.Outcome B) (b : B) : Type 0 where
-  pub value : A
-  pub comes : m ≡ accepted value
-  pub goes : next value ≡ accepted b
-
-accepted-refused : {A : Type 0} {a : A} {q : Refusal} → refused q ≡ accepted a → ⊥
-accepted-refused e = let z : _≡_ {A = ℕ} 0 1 = cc in omega arith
-
-pub accepted-of : {A : Type 0} {a b : A} → accepted a ≡ accepted b → a ≡ b
-accepted-of e = cc
-
-pub through : {A B : Type 0} (m : Paper.Outcome A) (next : A → Paper.Outcome B) (b : B) → (m >>= next) ≡ accepted b → Through m next b
-through (accepted a) next b e = record { value = a; comes = refl; goes = e }
-through (refused q) next b e = absurd (accepted-refused e)
-
--- what holds of an outcome holds of its value
-pub holds-at : {A : Type 0} {P : A → Type 0} {m : Paper.Outcome A} {a : A} → m ≡ accepted a → Holds P m → P a
-holds-at {A} {P} e h = holds-of (subst (Holds P) e h)
+use Rattle.pieces.specs.Change.{Near, AllNear}
+use Rattle.pieces.specs.Old.{part, Inside}
+use Rattle.pieces.specs.Snapshot.{Named, Standing, olds, patched}
+use Rattle.pieces.specs.Expression.{operandOf}
+use Rattle.patch.specs.Head.{Head, headOf}
+use Rattle.patch.specs.Branch.{forkOf}
+use Rattle.patch.specs.Loop.{Count, countOf}
+use Rattle.pieces.specs.Laws.Old.{part-none, part-next, part-long, part-drop}
+use Rattle.pieces.specs.Laws.Snapshot.{ReadAt, read-at, PatchedAt, patched-at}
+use Rattle.pieces.specs.Laws.Expression.{Sized, shift-sized, shift-near, operand-sized, operand-number}
 
 -- ---- a word read
 
@@ -60,7 +41,7 @@ pub record WordAt (t : Ty) (old : List ℤ) (from end : ℕ) (w : Read) : Type 0
 
 need-true : (b : Bool) (q : Refusal) (w : Read) (r : Read) → (need b q >>= λ u. accepted w) ≡ accepted r → (b ≡ true) × (r ≡ w)
 need-true true q w r e = (refl, sym (accepted-of e))
-need-true false q w r e = absurd (accepted-refused e)
+need-true false q w r e = absurd (refused-accepted e)
 
 pub word-at : (t : Ty) (old : List ℤ) (from end : ℕ) → end ≤ length old → (w : Read) → readIn t (part old from end) ≡ accepted w → WordAt t old from end w
 unfolding readIn read
@@ -74,7 +55,7 @@ word-at t old from end inside w e = ⊎-elim here past (decide (ltb from end))
         record { below = below; word = ap (λ (r : Read). r .word) (f .1); typed = f .0; rest = ap (λ (r : Read). r .rest) (f .1) }
 
     past : ltb from end ≡ false → WordAt t old from end w
-    past b = absurd (accepted-refused (subst (λ (ws : List ℤ). readIn t ws ≡ accepted w) (part-none old from end (ltb-false from end b)) e))
+    past b = absurd (refused-accepted (subst (λ (ws : List ℤ). readIn t ws ≡ accepted w) (part-none old from end (ltb-false from end b)) e))
 
 module _ (bytes lists : List ℕ) (node : ℕ) (named : Named bytes lists node) (old : List ℤ) (from end : ℕ) (inside : end ≤ length old) (changes : List ℤ) where
   abbrev vs : List ℕ

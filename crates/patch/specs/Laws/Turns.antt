@@ -14,19 +14,12 @@ use Rattle.rules.specs.Value.{Ty}
 use Rattle.rules.specs.Tree.{Expression, Statement, if, repeat, mentions}
 use Rattle.rules.specs.Run.{Done, holds, run}
 use Rattle.rules.specs.Patch.{Visited, Walked, Counts, Turn, Fork, noSteps, both, stepsOf, readIn, readSnapshot, movedAll, moved, shift, kept, flipped, loop, visit, walk}
-use Rattle.patch.specs.Snapshot.{patched}
-use Rattle.patch.specs.Expression.{operandOf}
-use Rattle.patch.specs.Statement.{Turned, turnOf, turnsOf, headOf, forkOf, countOf, repeated}
-
--- one do block behind another
-pub bind-assoc : {A B C : Type 0} (m : Paper.Outcome A) (f : A → Paper.Outcome B) (g : B → Paper.Outcome C) → (m >>= f >>= g) ≡ (m >>= λ a. f a >>= g)
-bind-assoc (accepted a) f g = refl
-bind-assoc (refused q) f g = refl
-
--- the same first, and alike from there on
-pub bind-same : {A B : Type 0} (m : Paper.Outcome A) (f g : A → Paper.Outcome B) → ((a : A) → f a ≡ g a) → (m >>= f) ≡ (m >>= g)
-bind-same (accepted a) f g e = e a
-bind-same (refused q) f g e = refl
+use Rattle.rules.specs.Laws.Outcome.{bind-assoc, bind-same}
+use Rattle.pieces.specs.Snapshot.{patched}
+use Rattle.pieces.specs.Expression.{operandOf}
+use Rattle.patch.specs.Head.{headOf}
+use Rattle.patch.specs.Branch.{forkOf}
+use Rattle.patch.specs.Loop.{Turned, turnOf, turnsOf, countOf, repeated}
 
 -- ---- the iterations that stay, and then the rest
 

@@ -21,7 +21,7 @@ use Rattle.rules.specs.Laws.Value.{minus-self}
 use Rattle.rules.specs.Tree.{Statement, skip, assign, sequence, if, repeat, nodeOf, mentions}
 use Rattle.rules.specs.Run.{Done, entry, enter, mostSteps, run}
 use Rattle.rules.specs.Patch.{Cut, cut, Counts, stepsOf, both, oneWalked, allReused, Entry, ends, meet, Walked, Visited, Walk, skipped, paid, visit, walk}
-use Rattle.rules.specs.Laws.Outcome.{Holds, value, vacant, holds-bind, holds-of, holds-map, holds-both, holds-if, Alike, values, refusals, alike-bind}
+use Rattle.rules.specs.Laws.Outcome.{Holds, value, vacant, holds-bind, holds-of, holds-map, holds-both, holds-if, refused-accepted, Alike, values, refusals, alike-bind}
 use Rattle.rules.specs.Laws.Store.{Good, Agree, difference, at-difference, length-difference, unchanged-agree}
 use Rattle.rules.specs.Laws.Mentions.{_∈_, is-member}
 use Rattle.rules.specs.Laws.Typed.{Typed, Kept, run-keeps}
@@ -57,19 +57,16 @@ run-dry (sequence n s t) store = refl
 run-dry (if n e s t) store = refl
 run-dry (repeat n e s) store = refl
 
-accepted-refused : {A : Type 0} {m : Outcome A} {a : A} {r : Refusal} → m ≡ accepted a → m ≡ refused r → ⊥
-accepted-refused {m} e f = let z : _≡_ {A = ℕ} 0 1 = cc in omega arith
-
 pub costs-of : (s : Statement) (fuel : ℕ) (store : List ℤ) (d : Done) → run s fuel store ≡ accepted d → Costs (λ k. run s k store) d
 costs-of s fuel store d e = holds-of (subst (Holds (Costs (λ k. run s k store))) e (run-costs s store fuel))
 
 pub steps-within : (s : Statement) (fuel : ℕ) (store : List ℤ) (d : Done) → run s fuel store ≡ accepted d → d .steps ≤ fuel
 steps-within s fuel store d e =
-    split (d .steps) fuel (λ le. le) (λ less. absurd (accepted-refused e (costs-of s fuel store d e .short fuel less)))
+    split (d .steps) fuel (λ le. le) (λ less. absurd (refused-accepted (sym (costs-of s fuel store d e .short fuel less) ∙ e)))
 
 pub steps-some : (s : Statement) (fuel : ℕ) (store : List ℤ) (d : Done) → run s fuel store ≡ accepted d → 1 ≤ d .steps
 steps-some s fuel store d e =
-    split 1 (d .steps) (λ le. le) (λ less. absurd (accepted-refused (costs-of s fuel store d e .enough 0 (omega arith)) (run-dry s store)))
+    split 1 (d .steps) (λ le. le) (λ less. absurd (refused-accepted (sym (run-dry s store) ∙ costs-of s fuel store d e .enough 0 (omega arith))))
 
 -- an entry opens with its node, size and steps
 unfoldable pub opens : ℕ → Done → Type 0

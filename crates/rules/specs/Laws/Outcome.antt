@@ -3,6 +3,8 @@
 -- line by line.
 -- Assumes nothing.
 use mathlib.Core.Path.{_≡_, refl, sym, subst}
+use Prim.Native.Nat.{ℕ}
+use native.Mathlib.Omega.{arith}
 use mathlib.Core.Bool.{Bool, true, false}
 use Rattle.rules.specs.Outcome.{Refusal, Outcome, accepted, refused, _>>=_, need, choose}
 
@@ -58,6 +60,38 @@ holds-const (refused r) p = vacant
 pub holds-any : {A : Type 0} (m : Outcome A) → Holds (λ a. Unit {0}) m
 holds-any (accepted a) = value tt
 holds-any (refused r) = vacant
+
+-- what holds of an outcome holds of its value
+pub holds-at : {A : Type 0} {P : A → Type 0} {m : Outcome A} {a : A} → m ≡ accepted a → Holds P m → P a
+holds-at {P} e h = holds-of (subst (Holds P) e h)
+
+-- ---- what an accepted do block went through
+
+pub refused-accepted : {A : Type 0} {a : A} {r : Refusal} → refused r ≡ accepted a → ⊥
+refused-accepted e = let z : _≡_ {A = ℕ} 0 1 = cc in omega arith
+
+pub accepted-of : {A : Type 0} {a b : A} → accepted a ≡ accepted b → a ≡ b
+accepted-of e = cc
+
+pub record Through {A B : Type 0} (m : Outcome A) (next : A → Outcome B) (b : B) : Type 0 where
+  pub value : A
+  pub comes : m ≡ accepted value
+  pub goes : next value ≡ accepted b
+
+pub through : {A B : Type 0} (m : Outcome A) (next : A → Outcome B) (b : B) → (m >>= next) ≡ accepted b → Through m next b
+through (accepted a) next b e = record { value = a; comes = refl; goes = e }
+through (refused r) next b e = absurd (refused-accepted e)
+
+-- ---- one do block behind another
+
+pub bind-assoc : {A B C : Type 0} (m : Outcome A) (f : A → Outcome B) (g : B → Outcome C) → (m >>= f >>= g) ≡ (m >>= λ a. f a >>= g)
+bind-assoc (accepted a) f g = refl
+bind-assoc (refused r) f g = refl
+
+-- the same first, and alike from there on
+pub bind-same : {A B : Type 0} (m : Outcome A) (f g : A → Outcome B) → ((a : A) → f a ≡ g a) → (m >>= f) ≡ (m >>= g)
+bind-same (accepted a) f g e = e a
+bind-same (refused r) f g e = refl
 
 -- ---- two computations go alike
 

@@ -25,7 +25,7 @@ use Rattle.run.specs.Code.{farthest}
 use Rattle.run.specs.Words.{Listed}
 use Rattle.run.specs.Statement.{EndedAs, RanAs, RunsTo, RepeatsTo, Known, Runnable, Repeatable}
 use Rattle.run.specs.Laws.Statements.{for-statement, list-is, listed-at, still-fine, bounded, accepted-refused, RunGot, run-got}
-use Rattle.run.specs.Laws.Listing.{list-long}
+use Rattle.run.specs.Laws.Listing.{listed-long}
 use Rattle.run.specs.Laws.Sequences.{follow, child-known}
 
 -- ---- the iterations so far, and those that are left
@@ -176,7 +176,7 @@ module _ {bytes : List ℕ} {base : ℕ} {lists : List ℕ} {node body : ℕ} {v
             width = ap length (list-is (h .known)) ∙ sym (length-snapshot vs (f .store))
 
             narrow : length (snapshot vs (f .store)) ≤ 32
-            narrow = omega (arith, width, again-listed .count, list-long again-listed)
+            narrow = omega (arith, width, again-listed .count, listed-long again-listed)
 
             long : length (d .words ++ (f .words ++ snapshot vs (f .store))) ≡ length (d .words) + length (f .words) + length (snapshot vs (f .store))
             long = omega (arith, length-append (d .words) (f .words ++ snapshot vs (f .store)), length-append (f .words) (snapshot vs (f .store)))

@@ -10,7 +10,7 @@ use Rattle.rules.specs.Call.{lengthOf, limitOf}
 use Rattle.run.specs.Laws.Fitting.{count-is, between-back}
 use Rattle.patch.proofs.Rooting.{cast-back, checked, room, limited, size-fits, some-node, header-inside, root-visitable, root-visits}
 use borrow.Author.Needs.{needs}
-use Rattle.patch.proofs.Changes.{kept}
+use Rattle.pieces.specs.Laws.Changes.{kept}
 use Rattle.patch.proofs.call.rooted.Statement.{statement}
 use Rattle.patch.proofs.call.rooted.Tie as tie
 

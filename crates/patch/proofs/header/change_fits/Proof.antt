@@ -11,7 +11,7 @@ use Rattle.rules.specs.Table.{tyOf}
 use Rattle.run.specs.Laws.Fitting.{between-back}
 use Rattle.patch.proofs.Inputs.{change-far, sum-fits, change-number, change-truth}
 use borrow.Author.Needs.{needs}
-use Rattle.patch.proofs.Changes.{kept}
+use Rattle.pieces.specs.Laws.Changes.{kept}
 use Rattle.patch.proofs.header.change_fits.Statement.{statement}
 use Rattle.patch.proofs.header.change_fits.Tie as tie
 

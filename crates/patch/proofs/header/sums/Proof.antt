@@ -14,7 +14,7 @@ use Rattle.rules.specs.Table.{variables, typesOf}
 use Rattle.run.specs.Laws.Fitting.{typeBy, count-is, header-long}
 use Rattle.patch.proofs.Inputs.{types-inside, inputs-long, all-long, near-both, sum-at}
 use Rattle.run.specs.Laws.Laying.{Laid, laid-none, laid-by, laid-all, laid-padded}
-use Rattle.patch.proofs.Changes.{kept-near}
+use Rattle.pieces.specs.Laws.Changes.{kept-near}
 use Rattle.patch.proofs.header.sums.Statement.{statement}
 use Rattle.patch.proofs.header.sums.Tie as tie
 

@@ -7,7 +7,7 @@ use lib.IntN.{ℤ}
 use borrow.Author.Needs.{needs}
 use Rattle.rules.specs.Laws.Parts.{nodeAt}
 use Rattle.patch.proofs.Nodes.{node-bytes, read-node}
-use Rattle.patch.proofs.Shifts.{Got}
+use Rattle.pieces.specs.Laws.Shifts.{Got}
 use Rattle.patch.proofs.Assigns.{its, shifts, variable-low, value-asked, assign-refused, value-got, value-inside, assign-broken, assign-answer}
 use Rattle.patch.proofs.parts.assign.Statement.{statement}
 use Rattle.patch.proofs.parts.assign.Tie as tie

@@ -3,7 +3,7 @@
 use mathlib.Core.Path.{sym, subst}
 use Prim.Native.Nat.{ℕ, _-_}
 use native.Mathlib.Omega.{arith}
-use Rattle.patch.specs.Statement.{Endable}
+use Rattle.patch.specs.Loop.{Endable}
 use Rattle.patch.proofs.Endings.{ended-shrunk, ended-broken, ended-grown, ended-same}
 use borrow.Author.Needs.{needs}
 use Rattle.patch.proofs.parts.ended.Statement.{statement}

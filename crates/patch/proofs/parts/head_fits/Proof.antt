@@ -9,7 +9,7 @@ use borrow.Author.Tests.{not-true, not-false}
 use borrow.Author.Needs.{needs}
 use Rattle.rules.specs.Value.{at}
 use Rattle.patch.proofs.Heads.{head-none, head-wrong, head-snapped}
-use Rattle.patch.proofs.Changes.{kept}
+use Rattle.pieces.specs.Laws.Changes.{kept}
 use Rattle.patch.proofs.parts.head_fits.Statement.{statement}
 use Rattle.patch.proofs.parts.head_fits.Tie as tie
 

@@ -7,7 +7,7 @@ use borrow.Author.Needs.{needs}
 use Rattle.rules.specs.Value.{at, snapshot}
 use Rattle.table.specs.Lists.{listAt}
 use Rattle.run.specs.Laws.Laying.{Laid, laid-none, laid-by, laid-all, laid-long}
-use Rattle.run.specs.Laws.Listing.{list-long, variable-known, snapshot-long, snapshot-at}
+use Rattle.run.specs.Laws.Listing.{listed-long, variable-known, snapshot-long, snapshot-at}
 use Rattle.run.proofs.words.snapshot.Statement.{statement}
 use Rattle.run.proofs.words.snapshot.Tie as tie
 
@@ -66,7 +66,7 @@ returns c =
     let count = c .before .before .wide .ensures in (
       laid-all (c .before .loop .inv .1)
           (omega (arith, count, snapshot-long (s .pre) (s .args .values .now))),
-      omega (arith, count, list-long (s .pre)),
+      omega (arith, count, listed-long (s .pre)),
     )
 
 pub snapshot-spec : {M : Type 1} → statement M

@@ -7,7 +7,7 @@ use borrow.Author.Needs.{needs}
 use mir.Syntax.{w64}
 use mir.Val.{toZ, ofZ}
 use Rattle.run.specs.Laws.Numbers.{word-back}
-use Rattle.patch.proofs.Changes.{kept-near}
+use Rattle.pieces.specs.Laws.Changes.{kept-near}
 use Rattle.patch.proofs.Ifs.{branch-refused, branch-forked, branch-near, branch-kept, branch-flipped}
 use borrow.Fn.Kinds.{In, Out}
 use Rattle.patch.proofs.statement.+branch+iterate+kept+looped+parts+pay+sequence+turn+turns+visit.Lts-branch as lts
@@ -16,7 +16,7 @@ use Rattle.patch.proofs.statement.+branch+iterate+kept+looped+parts+pay
 use Rattle.patch.proofs.statement.branch.Kinds as kinds
 use Rattle.patch.proofs.statement.branch.Reads as branch
 use Rattle.patch.proofs.parts.fork.Reads as fork
-use Rattle.patch.proofs.entry.stopped.Reads as stopped
+use Rattle.pieces.proofs.entry.stopped.Reads as stopped
 use Rattle.patch.proofs.statement.kept.Kinds as kept-kinds
 use Rattle.patch.proofs.statement.kept.Reads as kept
 use Rattle.patch.proofs.parts.flipped.Reads as flipped

@@ -11,10 +11,10 @@ use Rattle.rules.specs.Value.{at}
 use Rattle.rules.specs.Laws.Parts.{nodeAt}
 use Rattle.table.specs.Lists.{listAt}
 use Rattle.run.specs.Code.{farthest}
-use Rattle.patch.specs.Entry.{AdvancedBy}
+use Rattle.pieces.specs.Entry.{AdvancedBy}
 use Rattle.patch.proofs.Nodes.{node-bytes, row-known, read-node}
 use Rattle.rules.specs.Run.{times as countOf}
-use Rattle.patch.specs.Statement.{lastOf, EndsTo}
+use Rattle.patch.specs.Loop.{lastOf, EndsTo}
 use Rattle.patch.proofs.Counted.{counted-at, count-inside, body-below}
 use Rattle.patch.proofs.Repeats.{turns-turnable, iterate-refused, iterate-behind, iterate-endable, iterate-answer}
 use borrow.Fn.Kinds.{In, Out}
@@ -24,10 +24,10 @@ use Rattle.patch.proofs.statement.+branch+iterate+kept+looped+parts+pay
 use Rattle.patch.proofs.statement.iterate.Kinds as kinds
 use Rattle.patch.proofs.statement.iterate.Reads as iterate
 use Rattle.table.proofs.access.child_b.Reads as child-b
-use Rattle.patch.proofs.snapshot.width.Reads as width
+use Rattle.pieces.proofs.snapshot.width.Reads as width
 use Rattle.run.proofs.statement.times.Reads as times
 use Rattle.patch.proofs.statement.least.Reads as least
-use Rattle.patch.proofs.entry.advanced.Reads as advanced
+use Rattle.pieces.proofs.entry.advanced.Reads as advanced
 use Rattle.patch.proofs.statement.turns.Kinds as turns-kinds
 use Rattle.patch.proofs.statement.turns.Reads as turns
 use Rattle.run.proofs.words.put.Reads as put

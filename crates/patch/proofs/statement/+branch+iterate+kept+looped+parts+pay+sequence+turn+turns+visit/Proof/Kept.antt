@@ -12,7 +12,7 @@ use mir.ValLaws.{toZ-ofZ}
 use Rattle.rules.specs.Value.{at}
 use Rattle.table.specs.Lists.{listAt}
 use Rattle.run.specs.Code.{farthest}
-use Rattle.patch.specs.Entry.{AdvancedBy}
+use Rattle.pieces.specs.Entry.{AdvancedBy}
 use Rattle.patch.proofs.Nodes.{node-bytes, row-known, read-node}
 use Rattle.rules.specs.Outcome.{choose}
 use Rattle.rules.specs.Run.{holds}
@@ -20,7 +20,7 @@ use Rattle.rules.specs.Patch.{movedAll}
 use Rattle.rules.specs.Table.{typesOf}
 use Rattle.run.specs.Laws.Taken.{takenNode}
 use borrow.Author.Tests.{not-true, not-false}
-use Rattle.patch.specs.Snapshot.{Standing, MovedAs, olds}
+use Rattle.pieces.specs.Snapshot.{Standing, MovedAs, olds}
 use Rattle.patch.proofs.Branches.{forked-at, fork-inside, branch-below, kept-visitable, kept-refused, kept-near, kept-broken, kept-answer}
 use borrow.Fn.Kinds.{In, Out}
 use Rattle.patch.proofs.statement.+branch+iterate+kept+looped+parts+pay+sequence+turn+turns+visit.Lts-kept as lts
@@ -28,13 +28,13 @@ use Rattle.numbers.specs.Measured.{at-measure, below-measure}
 use Rattle.patch.proofs.statement.+branch+iterate+kept+looped+parts+pay+sequence+turn+turns+visit.Proof.Measures.{μ-kept, μ-visit}
 use Rattle.patch.proofs.statement.kept.Kinds as kinds
 use Rattle.patch.proofs.statement.kept.Reads as kept
-use Rattle.patch.proofs.snapshot.width.Reads as width
+use Rattle.pieces.proofs.snapshot.width.Reads as width
 use Rattle.run.proofs.statement.taken.Reads as taken
-use Rattle.patch.proofs.entry.advanced.Reads as advanced
+use Rattle.pieces.proofs.entry.advanced.Reads as advanced
 use Rattle.patch.proofs.statement.visit.Kinds as visit-kinds
 use Rattle.patch.proofs.statement.visit.Reads as visit
-use Rattle.patch.proofs.snapshot.move_snapshot.Reads as move-snapshot
-use Rattle.patch.proofs.entry.stopped.Reads as stopped
+use Rattle.pieces.proofs.snapshot.move_snapshot.Reads as move-snapshot
+use Rattle.pieces.proofs.entry.stopped.Reads as stopped
 use Rattle.run.proofs.words.put.Reads as put
 
 module _ (t : ℕ) where

@@ -15,7 +15,7 @@ use Rattle.patch.proofs.statement.+branch+iterate+kept+looped+parts+pay
 use Rattle.patch.proofs.statement.looped.Kinds as kinds
 use Rattle.patch.proofs.statement.looped.Reads as looped
 use Rattle.patch.proofs.parts.count.Reads as count
-use Rattle.patch.proofs.entry.stopped.Reads as stopped
+use Rattle.pieces.proofs.entry.stopped.Reads as stopped
 use Rattle.patch.proofs.statement.iterate.Kinds as iterate-kinds
 use Rattle.patch.proofs.statement.iterate.Reads as iterate
 

@@ -11,8 +11,8 @@ use Rattle.numbers.specs.Measured.{at-measure, below-measure}
 use Rattle.patch.proofs.statement.+branch+iterate+kept+looped+parts+pay+sequence+turn+turns+visit.Proof.Measures.{μ-parts, μ-pay}
 use Rattle.patch.proofs.statement.pay.Kinds as kinds
 use Rattle.patch.proofs.statement.pay.Reads as pay
-use Rattle.patch.proofs.entry.stopped.Reads as stopped
-use Rattle.patch.proofs.entry.stepped.Reads as stepped
+use Rattle.pieces.proofs.entry.stopped.Reads as stopped
+use Rattle.pieces.proofs.entry.stepped.Reads as stepped
 use Rattle.patch.proofs.statement.parts.Kinds as parts-kinds
 use Rattle.patch.proofs.statement.parts.Reads as parts
 use Rattle.run.proofs.statement.open.Reads as opening

@@ -4,7 +4,7 @@ use mathlib.Core.Path.{_∙_}
 use Prim.Native.Nat.{ℕ, _-_, _≤_}
 use native.Mathlib.Omega.{arith}
 use borrow.Author.Needs.{needs}
-use Rattle.patch.specs.Statement.{Turnable}
+use Rattle.patch.specs.Loop.{Turnable}
 use Rattle.patch.proofs.Iterations.{SoFar, so-far-none, turns-all, again-turnable, again-refused, again-done}
 use borrow.Fn.Kinds.{In, Out}
 use Rattle.patch.proofs.statement.+branch+iterate+kept+looped+parts+pay+sequence+turn+turns+visit.Lts-turns as lts

@@ -11,10 +11,10 @@ use Rattle.numbers.specs.Measured.{at-measure, below-measure}
 use Rattle.patch.proofs.statement.+branch+iterate+kept+looped+parts+pay+sequence+turn+turns+visit.Proof.Measures.{μ-pay, μ-visit}
 use Rattle.patch.proofs.statement.visit.Kinds as kinds
 use Rattle.patch.proofs.statement.visit.Reads as visit
-use Rattle.patch.proofs.entry.meet.Reads as meet
-use Rattle.patch.proofs.entry.stopped.Reads as stopped
-use Rattle.patch.proofs.snapshot.unchanged.Reads as unchanged
-use Rattle.patch.proofs.entry.skip.Reads as skip
+use Rattle.pieces.proofs.entry.meet.Reads as meet
+use Rattle.pieces.proofs.entry.stopped.Reads as stopped
+use Rattle.pieces.proofs.snapshot.unchanged.Reads as unchanged
+use Rattle.pieces.proofs.entry.skip.Reads as skip
 use Rattle.patch.proofs.statement.pay.Kinds as pay-kinds
 use Rattle.patch.proofs.statement.pay.Reads as pay
 

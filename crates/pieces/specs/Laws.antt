@@ -1,0 +1,9 @@
+pub mod Changes
+pub mod Climbing
+pub mod Entry
+pub mod Expression
+pub mod Moved
+pub mod Old
+pub mod Shifts
+pub mod Skipping
+pub mod Snapshot
