@@ -29,7 +29,8 @@ module _ {A : Type 0} where
   pub set-lay : (out : List A) (i at : ℕ) (w : A) (ws : List A) → i < at → set (lay out at ws) i w ≡ lay (set out i w) at ws
   unfolding lay
   set-lay out i at w [] h = refl
-  set-lay out i at w (x ∷ xs) h = set-lay (set out at x) i (suc at) w xs (omega arith) ∙ ap (λ (l : List A). lay l (suc at) xs) (set-comm out at i x w (apart at i h))
+  set-lay out i at w (x ∷ xs) h = set-lay (set out at x) i (suc at) w xs (omega arith)
+      ∙ ap (λ (l : List A). lay l (suc at) xs) (set-comm out at i x w (apart at i h))
     where
       apart : (at i : ℕ) → i < at → at ≡ i → ⊥
       apart at i h e = omega arith

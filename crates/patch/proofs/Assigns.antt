@@ -40,7 +40,8 @@ use Rattle.pieces.specs.Laws.Changes.{near-kept, kept}
 -- ---- the walk behind an assign
 
 -- it has come to the end, by as many words in both records
-pub assigned-sound : {old : List ℤ} {end : ℕ} {s r : Reached} {v n : ℕ} {x : ℤ} → Sound old end s → AssignedAs s v x end n r → s .from + n ≡ end → Near x → Sound old end r
+pub assigned-sound : {old : List ℤ} {end : ℕ} {s r : Reached} {v n : ℕ} {x : ℤ} → Sound old end s → AssignedAs s v x end n r → s .from + n ≡ end → Near x
+    → Sound old end r
 assigned-sound {old} {end} {s} {r} {v} {n} {x} h a all near =
     let ordered : r .from ≤ end = omega (arith, a .from) in
     let place : r .at + weight * r .left + length old + 60_000_000 ≤ farthest + r .from = omega (arith, h .place, a .left, a .from, a .at, all) in
@@ -106,14 +107,16 @@ module _ {bytes : List ℕ} {base : ℕ} {lists : List ℕ} {node : ℕ} {old : 
           by (refused u) f = stops ∙ ap Stop (refused-of (sym e ∙ f))
 
       pub value-got : {x : ℤ} {n : ℕ} → a ≡ Is x n → Got (its .e) shifts old (s .from) end x n out (s .at) one
-      value-got {x} {n} e = got (its .e) old (s .from) end (h .sound .inside) x n out (s .at) one shifts (shift-sized (its .e) changes (part old (s .from) end)) answer e
+      value-got {x} {n} e = got (its .e) old (s .from) end (h .sound .inside) x n out (s .at) one shifts
+          (shift-sized (its .e) changes (part old (s .from) end)) answer e
 
   module _ {x : ℤ} {n : ℕ} {out one : List ℤ} (g : Got (its .e) shifts old (s .from) end x n out (s .at) one) where
     pub value-inside : s .from + n ≤ end
     value-inside = g .room
 
     -- words are left
-    pub assign-broken : (s .from + n ≡ end → ⊥) → (r : Reached) → r .outcome ≡ Stop (refusalFor broken) → (after : List ℤ) → WalksTo bytes node old end s r out after
+    pub assign-broken : (s .from + n ≡ end → ⊥) → (r : Reached) → r .outcome ≡ Stop (refusalFor broken) → (after : List ℤ)
+        → WalksTo bytes node old end s r out after
     unfolding finished
     assign-broken more r stops after =
         let below : s .from + n < end = omega (arith, g .room, more) in

@@ -52,7 +52,8 @@ fork-laid out before after test branch z at second third fourth e f g =
 
 -- ---- what the head told
 
-module _ {bytes : List ℕ} {base : ℕ} {lists : List ℕ} {node size : ℕ} {old : List ℤ} {end : ℕ} {s : Reached} (h : Forked bytes base lists node size old end s) where
+module _ {bytes : List ℕ} {base : ℕ} {lists : List ℕ} {node size : ℕ} {old : List ℤ} {end : ℕ} {s : Reached}
+    (h : Forked bytes base lists node size old end s) where
   abbrev k : Node bytes base lists node
   k = h .entered .known
 
@@ -66,7 +67,8 @@ module _ {bytes : List ℕ} {base : ℕ} {lists : List ℕ} {node size : ℕ} {o
   its = as-if k (h .entered .kinded)
 
   -- the node's list is that of its if, whichever way it is known
-  same-if : {e e′ : Expression} {a a′ b b′ : Statement} {n n′ : ℕ} → partAt bytes node ≡ some (statement (Statement.if n e a b)) → partAt bytes node ≡ some (statement (Statement.if n′ e′ a′ b′))
+  same-if : {e e′ : Expression} {a a′ b b′ : Statement} {n n′ : ℕ} → partAt bytes node ≡ some (statement (Statement.if n e a b))
+      → partAt bytes node ≡ some (statement (Statement.if n′ e′ a′ b′))
       → (e ≡ e′) × ((a ≡ a′) × ((b ≡ b′) × (n ≡ n′)))
   same-if p q = let r : _≡_ {A = Option Part} (some (statement (Statement.if _ _ _ _))) (some (statement (Statement.if _ _ _ _))) = sym p ∙ q in (cc, (cc, (cc, cc)))
 
@@ -85,14 +87,16 @@ module _ {bytes : List ℕ} {base : ℕ} {lists : List ℕ} {node size : ℕ} {o
   -- ---- every way to know the node's if is this one
 
   abbrev ifOf : List ℤ → (Statement → Statement → Fork → List ℤ → Type 0) → Statement → Type 0
-  ifOf out Q (Statement.if n e a b) = (f : Fork) → forkOf (typesOf bytes) (mentions (Statement.if n e a b)) e (s .left) (s .changes .values) (part old (s .from) end) ≡ accepted f
+  ifOf out Q (Statement.if n e a b) = (f : Fork) → forkOf (typesOf bytes) (mentions (Statement.if n e a b)) e (s .left) (s .changes .values)
+      (part old (s .from) end) ≡ accepted f
       → (out₀ : List ℤ) → out ≡ forkLaid out₀ (s .at) f → Q a b f out₀
   ifOf out Q (Statement.skip n) = Unit {0}
   ifOf out Q (Statement.assign n v e) = Unit {0}
   ifOf out Q (Statement.sequence n a b) = Unit {0}
   ifOf out Q (Statement.repeat n e a) = Unit {0}
 
-  pub if-each : (out : List ℤ) (Q : Statement → Statement → Fork → List ℤ → Type 0) → ((out₀ : List ℤ) → out ≡ forkLaid out₀ (s .at) (h .fork) → Q (h .a) (h .b) (h .fork) out₀)
+  pub if-each : (out : List ℤ) (Q : Statement → Statement → Fork → List ℤ → Type 0)
+      → ((out₀ : List ℤ) → out ≡ forkLaid out₀ (s .at) (h .fork) → Q (h .a) (h .b) (h .fork) out₀)
       → (n : ℕ) (e : Expression) (a b : Statement) → partAt bytes node ≡ some (statement (Statement.if n e a b))
       → (f : Fork) → forkOf (typesOf bytes) (mentions (Statement.if n e a b)) e (s .left) (s .changes .values) (part old (s .from) end) ≡ accepted f
       → (out₀ : List ℤ) → out ≡ forkLaid out₀ (s .at) f → Q a b f out₀
@@ -169,14 +173,16 @@ module _ {bytes : List ℕ} {base : ℕ} {lists : List ℕ} {node size : ℕ} {o
       visited : VisitAs branched u r old end out one
       visited = p same (ap (partAt bytes) is ∙ branch-here (holds z))
 
-      each : (q final : List ℤ) (v : Reached) → ((out₀ : List ℤ) → out ≡ forkLaid out₀ (s .at) (h .fork) → WalkAs (branched >>= further vs (olds old (s .from + 1 + length vs) vs)) s v old end out₀ final)
+      each : (q final : List ℤ) (v : Reached) →
+          ((out₀ : List ℤ) → out ≡ forkLaid out₀ (s .at) (h .fork) → WalkAs (branched >>= further vs (olds old (s .from + 1 + length vs) vs)) s v old end out₀ final)
           → KeepsTo bytes node old end s v out final
       each q final v w = if-each out (λ a b f out₀. WalkAs (kept types (choose (holds (f .condition)) (visit a (walk types a)) (visit b (walk types b))) f) s v old end out₀ final)
           λ out₀ laid. subst (λ (m : Paper.Outcome Walked). WalkAs m s v old end out₀ final) (sym kept-is) (w out₀ laid)
 
       pub kept-refused : {q : Refusal} → r .outcome ≡ Refused q → (final : List ℤ) → KeepsTo bytes node old end s r out final
       kept-refused stops final = each out final r λ out₀ laid.
-          handed-up (λ v. Came v u r old end out one) (λ w. Came (whole w) s r old end out₀ final) branched (further vs (olds old (s .from + 1 + length vs) vs)) r visited (λ v c. c .sound .goes) stops
+          handed-up (λ v. Came v u r old end out one) (λ w. Came (whole w) s r old end out₀ final) branched
+          (further vs (olds old (s .from + 1 + length vs) vs)) r visited (λ v c. c .sound .goes) stops
 
       module _ (goes : r .outcome ≡ Accepted) where
         went : Gone (λ v. Came v u r old end out one) branched
@@ -197,16 +203,20 @@ module _ {bytes : List ℕ} {base : ℕ} {lists : List ℕ} {node size : ℕ} {o
         moves : Paper.Outcome (List ℤ)
         moves = movedAll types vs (olds old (s .from + 1 + length vs) vs) (v .changes)
 
-        after-visit : (branched >>= further vs (olds old (s .from + 1 + length vs) vs)) ≡ (movedAll types vs (olds old (s .from + 1 + length vs) vs) (r .changes .values) >>= λ news. accepted (closed v news))
+        after-visit : (branched >>= further vs (olds old (s .from + 1 + length vs) vs))
+            ≡ (movedAll types vs (olds old (s .from + 1 + length vs) vs) (r .changes .values) >>= λ news. accepted (closed v news))
         after-visit = ap (λ (m : Paper.Outcome Visited). m >>= further vs (olds old (s .from + 1 + length vs) vs)) (went .comes)
             ∙ ap (λ (cs : List ℤ). movedAll types vs (olds old (s .from + 1 + length vs) vs) cs >>= λ news. accepted (closed v news)) (sym (came .changes))
 
         module _ (fits : Bool) (two : List ℤ) (m : MovedAs (movedAll types vs (olds old (s .from + 1 + length vs) vs) (r .changes .values)) fits one (s .at + 1 + length vs) two) where
-          pub kept-broken : fits ≡ false → (x : Reached) → x .outcome ≡ Refused (refusalFor broken) → (final : List ℤ) → KeepsTo bytes node old end s x out final
-          kept-broken wrong x stops final = each out final x λ out₀ laid. subst (λ (o : Paper.Outcome Walked). WalkAs o s x old end out₀ final) (sym after-visit)
+          pub kept-broken : fits ≡ false → (x : Reached) → x .outcome ≡ Refused (refusalFor broken) → (final : List ℤ)
+              → KeepsTo bytes node old end s x out final
+          kept-broken wrong x stops final = each out final x λ out₀ laid. subst (λ (o : Paper.Outcome Walked). WalkAs o s x old end out₀ final)
+              (sym after-visit)
               (stopped (movedAll types vs (olds old (s .from + 1 + length vs) vs) (r .changes .values)) out₀ m)
             where
-              stopped : (o : Paper.Outcome (List ℤ)) (out₀ : List ℤ) → MovedAs o fits one (s .at + 1 + length vs) two → WalkAs (o >>= λ news. accepted (closed v news)) s x old end out₀ final
+              stopped : (o : Paper.Outcome (List ℤ)) (out₀ : List ℤ) → MovedAs o fits one (s .at + 1 + length vs) two
+                  → WalkAs (o >>= λ news. accepted (closed v news)) s x old end out₀ final
               stopped (accepted news) out₀ g = absurd (true≢false (sym (g .0) ∙ wrong))
               stopped (refused q) out₀ g = stops ∙ ap (λ (p : Paper.Refusal). Refused (refusalFor p)) (sym (g .1))
 
@@ -214,21 +224,28 @@ module _ {bytes : List ℕ} {base : ℕ} {lists : List ℕ} {node size : ℕ} {o
           kept-answer right final last = each out final r λ out₀ laid. subst (λ (o : Paper.Outcome Walked). WalkAs o s r old end out₀ final) (sym after-visit)
               (ended (movedAll types vs (olds old (s .from + 1 + length vs) vs) (r .changes .values)) refl out₀ laid m)
             where
-              ended : (o : Paper.Outcome (List ℤ)) → movedAll types vs (olds old (s .from + 1 + length vs) vs) (r .changes .values) ≡ o → (out₀ : List ℤ) → out ≡ forkLaid out₀ (s .at) (h .fork)
+              ended : (o : Paper.Outcome (List ℤ)) → movedAll types vs (olds old (s .from + 1 + length vs) vs) (r .changes .values) ≡ o → (out₀ : List ℤ)
+                  → out ≡ forkLaid out₀ (s .at) (h .fork)
                   → MovedAs o fits one (s .at + 1 + length vs) two → WalkAs (o >>= λ news. accepted (closed v news)) s r old end out₀ final
               ended (refused q) is out₀ laid g = absurd (true≢false (sym right ∙ g .0))
               ended (accepted news) is out₀ laid g =
                   let f = h .fork in
                   let w = length vs in
                   let width : length (f .vs) ≡ w = ap length (forked-at .vs-are) in
-                  let first : length (f .before) ≡ w = moved-long types vs (olds old (s .from + 1) vs) (s .changes .values) (f .before) (olds-long bytes lists node old (s .from + 1) (forked-at .first)) (forked-at .moved) in
-                  let second : length news ≡ w = moved-long types vs (olds old (s .from + 1 + w) vs) (r .changes .values) news (olds-long bytes lists node old (s .from + 1 + w) (forked-at .second)) is in
+                  let first : length (f .before) ≡ w
+                  = moved-long types vs (olds old (s .from + 1) vs) (s .changes .values) (f .before)
+                  (olds-long bytes lists node old (s .from + 1) (forked-at .first)) (forked-at .moved) in
+                  let second : length news ≡ w
+                  = moved-long types vs (olds old (s .from + 1 + w) vs) (r .changes .values) news
+                  (olds-long bytes lists node old (s .from + 1 + w) (forked-at .second)) is in
                   let e : s .at + 1 + w ≡ s .at + 1 + length (f .before) = omega (arith, first) in
                   let g′ : s .at + 1 + 2 * length (f .vs) ≡ s .at + 1 + w + length news = omega (arith, second, width) in
                   let i′ : u .at ≡ s .at + 1 + 2 * length (f .vs) + length (f .test .words) = omega (arith, step .at, h .size, width) in
                   let words : final ≡ lay out₀ (s .at) (ifWords z (f .before) news (f .test .words) (v .words))
                   = last
-                  ∙ ap₂ {C = List ℤ} (λ (l : List ℤ) (x : ℤ). set l (s .at) x) (g .1 ∙ ap (λ (l : List ℤ). lay l (s .at + 1 + w) news) (came .lays ∙ ap (λ (l : List ℤ). lay l (u .at) (v .words)) laid)) (sym (forked-at .condition))
+                  ∙ ap₂ {C = List ℤ} (λ (l : List ℤ) (x : ℤ). set l (s .at) x)
+                  (g .1 ∙ ap (λ (l : List ℤ). lay l (s .at + 1 + w) news) (came .lays ∙ ap (λ (l : List ℤ). lay l (u .at) (v .words)) laid))
+                  (sym (forked-at .condition))
                   ∙ fork-laid out₀ (f .before) news (f .test .words) (v .words) z (s .at) (s .at + 1 + w) (s .at + 1 + 2 * length (f .vs)) (u .at) e g′ i′ in
                   let leaves : r .left + stepsOf (v .counts) ≡ s .left = omega (arith, came .leaves, step .left) in
                   let walks : r .walked ≡ s .walked + v .counts .walked = omega (arith, came .walks, step .walked) in

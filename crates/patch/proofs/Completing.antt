@@ -85,14 +85,17 @@ module _ {v limit : ℕ} {inputs outputs : Store} {r : Reached} {now : List ℤ}
       let laid : five ≡ lay (h .before) 0 words =
       a₅ ∙ ap₂ {C = List ℤ} (λ (l ws : List ℤ). lay l (3 + v) ws)
       (a₄ ∙ ap₂ {C = List ℤ} (λ (l ws : List ℤ). lay l 3 ws) (a₃ ∙ ap₂ {C = List ℤ} (λ (l : List ℤ) (n : ℕ). set l 2 (pos n)) front steps-are) ins-are) outs-are
-      ∙ record-laid (h .before) (h .ins) (h .outs) (w .words) (pos (headed + length (h .ins ++ (h .outs ++ w .words)))) (pos limit) (pos steps) v (h .each-in) (h .each-out) in
+      ∙ record-laid (h .before) (h .ins) (h .outs) (w .words) (pos (headed + length (h .ins ++ (h .outs ++ w .words)))) (pos limit) (pos steps) v
+      (h .each-in) (h .each-out) in
       let fits : length words ≤ length (h .before) = omega (arith, h .room, long, out-long) in
       let same : length five ≡ length now = ap length laid ∙ length-lay (h .before) 0 words ∙ sym out-long in
       a₆ ∙ ap₂ {C = List ℤ} (λ (n m : ℕ). take n five ++ zeros (m - n)) long same
       ∙ ap (λ (l : List ℤ). l ++ zeros (length now - length words)) (ap (take (length words)) laid ∙ cut-laid (h .before) words fits)
 
-  pub answer-is : (a : Answer) → a .outcome ≡ Accepted → a .steps ≡ limit - r .left → a .walked ≡ r .walked → a .reused ≡ r .reused → a .fresh ≡ limit - r .left - r .walked - r .reused
-      → a .length ≡ r .at → a .values ≡ outputs .values → a .changes ≡ padded (take v (r .changes .values)) → answerOf a ≡ answered (length now) (accepted (finished v limit (h .ins) (h .outs) w)) .answer
+  pub answer-is : (a : Answer) → a .outcome ≡ Accepted → a .steps ≡ limit - r .left → a .walked ≡ r .walked → a .reused ≡ r .reused
+      → a .fresh ≡ limit - r .left - r .walked - r .reused
+      → a .length ≡ r .at → a .values ≡ outputs .values → a .changes ≡ padded (take v (r .changes .values))
+      → answerOf a ≡ answered (length now) (accepted (finished v limit (h .ins) (h .outs) w)) .answer
   unfolding answered
   answer-is a o s u x f l vs cs =
       ap₂ {C = Paper-Answer} (λ (q : Outcome) (n : ℕ). record { number = numberOf q; steps = n; counts = record { walked = a .walked; reused = a .reused; fresh = a .fresh }; length = a .length; values = a .values; changes = a .changes }) o (s ∙ steps-are)
@@ -100,4 +103,5 @@ module _ {v limit : ℕ} {inputs outputs : Store} {r : Reached} {now : List ℤ}
       ∙ ap₂ {C = Paper-Answer} (λ (ws zs : List ℤ). record { number = 0; steps = steps; counts = w .counts; length = length words; values = ws; changes = zs }) (vs ∙ h .holds-out) (cs ∙ ap (λ (ws : List ℤ). padded (take v ws)) (h .changes))
     where
       counts : _≡_ {A = Counts} (record { walked = a .walked; reused = a .reused; fresh = a .fresh }) (w .counts)
-      counts = ap₂ {C = Counts} (λ (i j : ℕ). record { walked = i; reused = j; fresh = a .fresh }) (u ∙ h .walks) (x ∙ h .reuses) ∙ ap {B = Counts} (λ (n : ℕ). record { walked = w .counts .walked; reused = w .counts .reused; fresh = n }) (f ∙ fresh-are)
+      counts = ap₂ {C = Counts} (λ (i j : ℕ). record { walked = i; reused = j; fresh = a .fresh }) (u ∙ h .walks) (x ∙ h .reuses)
+          ∙ ap {B = Counts} (λ (n : ℕ). record { walked = w .counts .walked; reused = w .counts .reused; fresh = n }) (f ∙ fresh-are)

@@ -23,7 +23,8 @@ use Rattle.patch.specs.Loop.{Counted, Count, countOf}
 use Rattle.pieces.specs.declared.entry.Reached.{Reached}
 use Rattle.patch.proofs.Nodes.{list-is, named-of, as-run, same-tree}
 
-module _ {bytes : List ℕ} {base : ℕ} {lists : List ℕ} {node : ℕ} {new : ℤ} {size : ℕ} {old : List ℤ} {end : ℕ} {s : Reached} (h : Counted bytes base lists node new size old end s) where
+module _ {bytes : List ℕ} {base : ℕ} {lists : List ℕ} {node : ℕ} {new : ℤ} {size : ℕ} {old : List ℤ} {end : ℕ} {s : Reached}
+    (h : Counted bytes base lists node new size old end s) where
   abbrev k : Node bytes base lists node
   k = h .entered .known
 

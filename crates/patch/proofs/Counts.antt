@@ -56,13 +56,15 @@ module _ {bytes : List ℕ} {base : ℕ} {lists : List ℕ} {node : ℕ} {old : 
 
   -- what is shown of the node's own repeat is shown of each
   abbrev OfRepeat : Shifted → List ℤ → List ℤ → Statement → Type 0
-  OfRepeat r out after (Statement.repeat n e b) = CountAs (mentions (Statement.repeat n e b)) (countOf types (mentions (Statement.repeat n e b)) e changes (part old (s .from) end)) r out (s .at) after
+  OfRepeat r out after (Statement.repeat n e b) = CountAs (mentions (Statement.repeat n e b))
+      (countOf types (mentions (Statement.repeat n e b)) e changes (part old (s .from) end)) r out (s .at) after
   OfRepeat r out after (Statement.skip n) = Unit {0}
   OfRepeat r out after (Statement.assign n v e) = Unit {0}
   OfRepeat r out after (Statement.sequence n a b) = Unit {0}
   OfRepeat r out after (Statement.if n e a b) = Unit {0}
 
-  each : (r : Shifted) (out after : List ℤ) → CountAs vs (countOf types vs (its .e) changes (part old (s .from) end)) r out (s .at) after → CountsTo bytes node old end s r out after
+  each : (r : Shifted) (out after : List ℤ) → CountAs vs (countOf types vs (its .e) changes (part old (s .from) end)) r out (s .at) after
+      → CountsTo bytes node old end s r out after
   each r out after w n e b = for-tree k (OfRepeat r out after) (subst (OfRepeat r out after) (sym (its .is)) own) (Statement.repeat n e b)
     where
       own : OfRepeat r out after (Statement.repeat node (its .e) (its .s))
@@ -72,7 +74,8 @@ module _ {bytes : List ℕ} {base : ℕ} {lists : List ℕ} {node : ℕ} {old : 
   pub count-headless : (out one : List ℤ) (fits : Bool) → HeadTo bytes lists node 0 old (s .from) end changes fits out (s .at) one → fits ≡ false
       → (after : List ℤ) → CountsTo bytes node old end s (Refused (refusalFor broken)) out after
   unfolding countOf
-  count-headless out one fits p wrong after = each (Refused (refusalFor broken)) out after (rw (head-broken h 0 Ty.number number-byte out one fits p wrong) refl)
+  count-headless out one fits p wrong after = each (Refused (refusalFor broken)) out after
+      (rw (head-broken h 0 Ty.number number-byte out one fits p wrong) refl)
 
   module _ {out one : List ℤ} (g : HeadGot h Ty.number out one) where
     pub count-below : s .from < length old
@@ -104,7 +107,8 @@ module _ {bytes : List ℕ} {base : ℕ} {lists : List ℕ} {node : ℕ} {old : 
           ≡ (operandOf (its .e) was changes (part old (s .from + 1 + width) end) >>= λ x. accepted (record { head = g .head; count = x }))
       unfolding countOf
       count-is =
-          let behind : g .head .snap .rest ≡ part old (s .from + 1 + width) end = g .reads .snap .rest ∙ ap (λ (n : ℕ). part old (s .from + 1 + n) end) (sym wide) in
+          let behind : g .head .snap .rest ≡ part old (s .from + 1 + width) end
+          = g .reads .snap .rest ∙ ap (λ (n : ℕ). part old (s .from + 1 + n) end) (sym wide) in
           rw (g .comes) (ap₂ {C = Paper.Outcome Count} (λ (z : ℤ) (ws : List ℤ). operandOf (its .e) z changes ws >>= λ x. accepted (record { head = g .head; count = x })) (sym was-is) behind)
 
       by : (o : Paper.Outcome Rules.Shifted) (r : Shifted) (after : List ℤ) → ShiftedAs o r one (s .at + 1 + width) after

@@ -24,13 +24,15 @@ use Rattle.patch.specs.Loop.{turnAt, Endable, EndsTo, ShrinksTo}
 use Rattle.pieces.specs.declared.entry.Reached.{Reached}
 
 -- iterations fall away, where none is left of the new
-loop-dropped : (types : List Ty) (body : ℕ → List ℤ → List ℤ → Paper.Outcome Visited) (fresh : ℕ → List ℤ → Paper.Outcome Done) (vs : List ℕ) (t : Turn) (n : ℕ) → 0 < n
+loop-dropped : (types : List Ty) (body : ℕ → List ℤ → List ℤ → Paper.Outcome Visited) (fresh : ℕ → List ℤ → Paper.Outcome Done) (vs : List ℕ) (t : Turn)
+    (n : ℕ) → 0 < n
     → loop types body fresh vs n 0 t ≡ shrunk types vs t
 unfolding loop
 loop-dropped types body fresh vs t zero p = absurd (omega arith)
 loop-dropped types body fresh vs t (suc n) p = refl
 
-module _ {bytes : List ℕ} {base : ℕ} {lists : List ℕ} {node body last : ℕ} {old : List ℤ} {end : ℕ} {s : Reached} (h : Endable bytes base lists node body last old end s) (dropped more : ℕ) where
+module _ {bytes : List ℕ} {base : ℕ} {lists : List ℕ} {node body last : ℕ} {old : List ℤ} {end : ℕ} {s : Reached}
+    (h : Endable bytes base lists node body last old end s) (dropped more : ℕ) where
   -- where the walk stands at the end already, the end may be put for its place
   pub ended-grown : dropped ≡ 0 → s .from ≡ end → (r : Reached) (out after : List ℤ) → EndsTo bytes lists node body 0 more last old (s .from) s r out after
       → EndsTo bytes lists node body dropped more last old end s r out after

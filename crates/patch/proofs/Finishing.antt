@@ -76,7 +76,8 @@ module _ {bytes : List ℕ} {old : List ℤ} {changes : Store} {r : Reached} {ou
   each-in = sums-length table-sized (inputsOf types old) given (header-whole .inputs) (omega (arith, given-long (h .rooted .start)))
 
   pub each-out : length outs ≡ variables bytes
-  each-out = sums-length table-sized (outputsOf types old) (w .changes) (header-whole .outputs) (omega (arith, few, ap length (h .came .changes), h .came .sound .long))
+  each-out = sums-length table-sized (outputsOf types old) (w .changes) (header-whole .outputs)
+      (omega (arith, few, ap length (h .came .changes), h .came .sound .long))
 
   module _ {v : ℕ} (iv : v ≡ variables bytes) where
     pub inputs-summed : Sums bytes (take (3 + v - 3) (drop 3 old)) (changes .values)
@@ -103,7 +104,8 @@ module _ {bytes : List ℕ} {old : List ℤ} {changes : Store} {r : Reached} {ou
         (ap₂ {C = List ℤ} (plusAll types) (inputs-are table-sized old iv) (h .rooted .whole ∙ ap padded (sym front))
         ∙ plus-padded types (inputsOf types old) given (omega (arith, many, long)))
 
-    pub outputs-made : {values : List ℤ} → values ≡ padded (plusAll types (take (3 + 2 * v - (3 + v)) (drop (3 + v) old)) (r .changes .values)) → values ≡ padded outs
+    pub outputs-made : {values : List ℤ} → values ≡ padded (plusAll types (take (3 + 2 * v - (3 + v)) (drop (3 + v) old)) (r .changes .values))
+        → values ≡ padded outs
     outputs-made e = e ∙ ap padded (ap₂ {C = List ℤ} (plusAll types) (outputs-are table-sized old iv) (h .came .changes))
 
     -- the outputs that the code tests
@@ -139,10 +141,12 @@ module _ {bytes : List ℕ} {old : List ℤ} {changes : Store} {r : Reached} {ou
 
   module _ {f : Bool} (is : f ≡ fit types outs) (a : Answer) (after : List ℤ) where
     pub outputs-refused : f ≡ false → Answers (length out) (refused broken) a after → PatchAnswers bytes old given (length out) a after
-    outputs-refused e x = subst (λ (m : Paper.Outcome Finished). Answers (length out) (m >>= within (length out)) a after) (sym (ends-as ∙ ap (λ (b : Bool). need b broken >>= λ u. accepted end) (sym is ∙ e))) x
+    outputs-refused e x = subst (λ (m : Paper.Outcome Finished). Answers (length out) (m >>= within (length out)) a after)
+        (sym (ends-as ∙ ap (λ (b : Bool). need b broken >>= λ u. accepted end) (sym is ∙ e))) x
 
     module _ (e : f ≡ true) where
-      room-decides : (b : Bool) → leb (length (end .words)) (length out) ≡ b → (finishPatch bytes old given >>= within (length out)) ≡ (need b roomShort >>= λ u. accepted end)
+      room-decides : (b : Bool) → leb (length (end .words)) (length out) ≡ b
+          → (finishPatch bytes old given >>= within (length out)) ≡ (need b roomShort >>= λ u. accepted end)
       unfolding within
       room-decides b g =
           ap (λ (m : Paper.Outcome Finished). m >>= within (length out)) (ends-as ∙ ap (λ (b : Bool). need b broken >>= λ u. accepted end) (sym is ∙ e))
@@ -150,13 +154,16 @@ module _ {bytes : List ℕ} {old : List ℤ} {changes : Store} {r : Reached} {ou
 
       pub room-refused : length out < r .at → Answers (length out) (refused roomShort) a after → PatchAnswers bytes old given (length out) a after
       room-refused g x =
-          subst (λ (m : Paper.Outcome Finished). Answers (length out) m a after) (sym (room-decides false (lt-leb (length (end .words)) (length out) (omega (arith, words-long))))) x
+          subst (λ (m : Paper.Outcome Finished). Answers (length out) m a after)
+          (sym (room-decides false (lt-leb (length (end .words)) (length out) (omega (arith, words-long))))) x
 
       pub all-answered : r .at ≤ length out → Answers (length out) (accepted end) a after → PatchAnswers bytes old given (length out) a after
       all-answered g x =
-          subst (λ (m : Paper.Outcome Finished). Answers (length out) m a after) (sym (room-decides true (le-leb (length (end .words)) (length out) (omega (arith, words-long))))) x
+          subst (λ (m : Paper.Outcome Finished). Answers (length out) m a after)
+          (sym (room-decides true (le-leb (length (end .words)) (length out) (omega (arith, words-long))))) x
 
-  module _ {v left : ℕ} (inputs outputs : Store) (iv : v ≡ variables bytes) (il : left ≡ limit) (ii : inputs .values ≡ padded ins) (io : outputs .values ≡ padded outs) (g : r .at ≤ length out) where
+  module _ {v left : ℕ} (inputs outputs : Store) (iv : v ≡ variables bytes) (il : left ≡ limit) (ii : inputs .values ≡ padded ins)
+      (io : outputs .values ≡ padded outs) (g : r .at ≤ length out) where
     abbrev pub completable : Completable v left inputs outputs r out
     completable = record {
       few = subst (λ (n : ℕ). n ≤ 32) (sym iv) few;
@@ -180,7 +187,8 @@ module _ {bytes : List ℕ} {old : List ℤ} {changes : Store} {r : Reached} {ou
       room = g;
     }
 
-    pub completed : {f : Bool} → f ≡ fit types outs → f ≡ true → (a : Answer) (after : List ℤ) → CompletesTo v left inputs outputs r out a after → PatchAnswers bytes old given (length out) a after
+    pub completed : {f : Bool} → f ≡ fit types outs → f ≡ true → (a : Answer) (after : List ℤ) → CompletesTo v left inputs outputs r out a after
+        → PatchAnswers bytes old given (length out) a after
     completed is e a after c =
         all-answered is a after e g
         (subst (λ (n : ℕ). Answers (length out) (accepted (finished n limit ins outs w)) a after) iv

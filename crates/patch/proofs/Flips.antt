@@ -72,7 +72,8 @@ run-other : (b : Bool) (x y : Statement) → run (choose (not b) x y) ≡ choose
 run-other true x y = refl
 run-other false x y = refl
 
-module _ {bytes : List ℕ} {base : ℕ} {lists : List ℕ} {node size : ℕ} {old : List ℤ} {end : ℕ} {s : Reached} (h : Forked bytes base lists node size old end s) where
+module _ {bytes : List ℕ} {base : ℕ} {lists : List ℕ} {node size : ℕ} {old : List ℤ} {end : ℕ} {s : Reached}
+    (h : Forked bytes base lists node size old end s) where
   abbrev vs : List ℕ
   vs = listAt lists node
 
@@ -161,12 +162,14 @@ module _ {bytes : List ℕ} {base : ℕ} {lists : List ℕ} {node size : ℕ} {o
         ∙ ap (λ (body : ℕ → List ℤ → Paper.Outcome Done). body (s .left) values >>= λ d. accepted (flippedAs d))
         (sym (ap run (same-tree (other .here) (branch-here h (not (holds z)))) ∙ run-other (holds z) (h .a) (h .b)))
 
-    pub flip-runnable : {i at′ : ℕ} → i ≡ takenNode bytes node (not (holds z)) → at′ ≡ s .at + 1 + 2 * length vs + size → Runnable bytes base lists i values (s .left) at′
+    pub flip-runnable : {i at′ : ℕ} → i ≡ takenNode bytes node (not (holds z)) → at′ ≡ s .at + 1 + 2 * length vs + size
+        → Runnable bytes base lists i values (s .left) at′
     flip-runnable {i} {at′} e place =
         let near : at′ + weight * s .left ≤ farthest = omega (arith, place, h .entered .sound .place, h .entered .sound .inside .ends, fork-inside h) in
         subst (λ (j : ℕ). Runnable bytes base lists j values (s .left) at′) (sym e) (record { known = store-known begun other; near = near })
 
-    module _ {i : ℕ} (at-i : i ≡ takenNode bytes node (not (holds z))) (ran : Ran) (out one : List ℤ) (at′ : ℕ) (p : RunsTo bytes i values (s .left) ran out at′ one) where
+    module _ {i : ℕ} (at-i : i ≡ takenNode bytes node (not (holds z))) (ran : Ran) (out one : List ℤ) (at′ : ℕ)
+        (p : RunsTo bytes i values (s .left) ran out at′ one) where
       ran-as : RanAs runs ran out (s .left) at′ one
       ran-as = p (other .tree) (ap (partAt bytes) at-i ∙ other .here)
 
@@ -177,10 +180,12 @@ module _ {bytes : List ℕ} {base : ℕ} {lists : List ℕ} {node size : ℕ} {o
           if-each h out (λ a′ b′ g out₁. change ≡ g .test .change → WalkAs (flipped types (choose (holds (g .condition)) (run b′) (run a′)) g) s r old end out₁ final)
           (λ out₁ laid₁ told₁. subst (λ (m : Paper.Outcome Walked). WalkAs m s r old end out₁ final) (sym flipped-is) (w out₁ laid₁ told₁)) n e a b here f is-f out₀ laid told
 
-      pub flip-refused : {q : Refusal} → ran .outcome ≡ Refused q → (change : ℤ) (r : Reached) → r .outcome ≡ Refused q → (final : List ℤ) → FlipsTo bytes node change old end s r out final
+      pub flip-refused : {q : Refusal} → ran .outcome ≡ Refused q → (change : ℤ) (r : Reached) → r .outcome ≡ Refused q → (final : List ℤ)
+          → FlipsTo bytes node change old end s r out final
       flip-refused stops change r e final = each change r final λ out₀ laid told. of runs ran-as out₀
         where
-          of : (m : Paper.Outcome Done) → RanAs m ran out (s .left) at′ one → (out₀ : List ℤ) → WalkAs (m >>= λ d. accepted (flippedAs d)) s r old end out₀ final
+          of : (m : Paper.Outcome Done) → RanAs m ran out (s .left) at′ one → (out₀ : List ℤ)
+              → WalkAs (m >>= λ d. accepted (flippedAs d)) s r old end out₀ final
           of (accepted d) g out₀ = absurd (accepted-refused (sym (g .accepts) ∙ stops))
           of (refused q) g out₀ = e ∙ sym stops ∙ g
 
@@ -196,7 +201,8 @@ module _ {bytes : List ℕ} {base : ℕ} {lists : List ℕ} {node size : ℕ} {o
         flip-settles wide = subst (λ (n : ℕ). Freshened bytes lists node old (s .from + 1 + n) ran s) (sym wide)
             (record { standing = forked-at h .second; near = good-near types (ran .store .values) good })
 
-        pub flip-answer : {w : ℕ} → w ≡ length vs → at′ ≡ s .at + 1 + 2 * w + size → (change : ℤ) (two final : List ℤ) → two ≡ lay one (s .at + 1 + w) (snapshot vs (ran .store .values))
+        pub flip-answer : {w : ℕ} → w ≡ length vs → at′ ≡ s .at + 1 + 2 * w + size → (change : ℤ) (two final : List ℤ)
+            → two ≡ lay one (s .at + 1 + w) (snapshot vs (ran .store .values))
             → (x : ℤ) → x ≡ plus Ty.truth z change → final ≡ set two (s .at) x → (r : Reached) → FreshAs bytes lists node old (s .from + 1 + w) end ran s r
             → FlipsTo bytes node change old end s r out final
         flip-answer {w} wide place change two final snapped x is-x last r fresh = each change r final λ out₀ laid told.
@@ -208,7 +214,8 @@ module _ {bytes : List ℕ} {base : ℕ} {lists : List ℕ} {node size : ℕ} {o
             let width : length (f .vs) ≡ length vs = ap length (forked-at h .vs-are) in
             let first : length (f .before) ≡ length vs = news-long begun in
             let second : length after ≡ length vs = length-snapshot vs (d .store) in
-            let long : length words ≡ 1 + length (f .before) + length after + length (f .test .words) + length (d .words) = if-long new (f .before) after (f .test .words) (d .words) in
+            let long : length words ≡ 1 + length (f .before) + length after + length (f .test .words) + length (d .words)
+            = if-long new (f .before) after (f .test .words) (d .words) in
             let e1 : s .at + 1 + w ≡ s .at + 1 + length (f .before) = omega (arith, first, wide) in
             let e2 : s .at + 1 + 2 * length (f .vs) ≡ s .at + 1 + w + length after = omega (arith, second, width, wide) in
             let e3 : at′ ≡ s .at + 1 + 2 * length (f .vs) + length (f .test .words) = omega (arith, place, width, wide, h .size) in

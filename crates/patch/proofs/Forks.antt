@@ -56,13 +56,15 @@ module _ {bytes : List ℕ} {base : ℕ} {lists : List ℕ} {node : ℕ} {old : 
 
   -- what is shown of the node's own if is shown of each
   abbrev OfIf : Shifted → List ℤ → List ℤ → Statement → Type 0
-  OfIf r out after (Statement.if n e a b) = ForkAs (forkOf types (mentions (Statement.if n e a b)) e (s .left) changes (part old (s .from) end)) r out (s .at) after
+  OfIf r out after (Statement.if n e a b) = ForkAs (forkOf types (mentions (Statement.if n e a b)) e (s .left) changes (part old (s .from) end)) r out
+      (s .at) after
   OfIf r out after (Statement.skip n) = Unit {0}
   OfIf r out after (Statement.assign n v e) = Unit {0}
   OfIf r out after (Statement.sequence n a b) = Unit {0}
   OfIf r out after (Statement.repeat n e a) = Unit {0}
 
-  each : (r : Shifted) (out after : List ℤ) → ForkAs (forkOf types vs (its .e) (s .left) changes (part old (s .from) end)) r out (s .at) after → ForksTo bytes node old end s r out after
+  each : (r : Shifted) (out after : List ℤ) → ForkAs (forkOf types vs (its .e) (s .left) changes (part old (s .from) end)) r out (s .at) after
+      → ForksTo bytes node old end s r out after
   each r out after w n e a b = for-tree k (OfIf r out after) (subst (OfIf r out after) (sym (its .is)) own) (Statement.if n e a b)
     where
       own : OfIf r out after (Statement.if node (its .e) (its .s) (its .t))
@@ -91,7 +93,8 @@ module _ {bytes : List ℕ} {base : ℕ} {lists : List ℕ} {node : ℕ} {old : 
     second-is : readSnapshot types vs (g .head .snap .rest) ≡ second
     second-is = ap (readSnapshot types vs) (g .reads .snap .rest ∙ ap (λ (n : ℕ). part old (s .from + 1 + n) end) (sym wide))
 
-    pub second-broken : {fits : Bool} → FitsAs second fits → fits ≡ false → (after : List ℤ) → ForksTo bytes node old end s (Refused (refusalFor broken)) out after
+    pub second-broken : {fits : Bool} → FitsAs second fits → fits ≡ false → (after : List ℤ)
+        → ForksTo bytes node old end s (Refused (refusalFor broken)) out after
     unfolding forkOf
     second-broken {fits} p wrong after =
         let none = second-is ∙ by second p in
@@ -146,7 +149,8 @@ module _ {bytes : List ℕ} {base : ℕ} {lists : List ℕ} {node : ℕ} {old : 
       unfolding forkOf
       fork-is = rw (g .comes, a .comes) refl
 
-      by : (o : Paper.Outcome Rules.Shifted) (r : Shifted) (after : List ℤ) → ShiftedAs o r one (s .at + 1 + 2 * width) after → ForkAs (o >>= λ x. accepted (forked x)) r out (s .at) after
+      by : (o : Paper.Outcome Rules.Shifted) (r : Shifted) (after : List ℤ) → ShiftedAs o r one (s .at + 1 + 2 * width) after
+          → ForkAs (o >>= λ x. accepted (forked x)) r out (s .at) after
       by (accepted x) r after q = (q .0, q .1 ∙ ap₂ {C = List ℤ} (λ (l : List ℤ) (n : ℕ). lay l (s .at + 1 + 2 * n) (x .words)) (g .lays) wide)
       by (refused x) r after q = q
 

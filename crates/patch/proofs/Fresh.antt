@@ -37,13 +37,15 @@ pub record Started (bytes lists : List ℕ) (node : ℕ) (old : List ℤ) (from 
   pub standing : Standing bytes lists node old from
   pub is : values ≡ put (listAt lists node) (plusEach (typesOf bytes) (listAt lists node) (olds old from (listAt lists node)) changes) (zeros mostVariables)
 
-module _ {bytes lists : List ℕ} {node : ℕ} {old : List ℤ} {from : ℕ} {changes news values : List ℤ} (h : Started bytes lists node old from changes news values) where
+module _ {bytes lists : List ℕ} {node : ℕ} {old : List ℤ} {from : ℕ} {changes news values : List ℤ}
+    (h : Started bytes lists node old from changes news values) where
   pub store-is : values ≡ put (listAt lists node) news (zeros mostVariables)
   store-is = h .is ∙ ap (λ (zs : List ℤ). put (listAt lists node) zs (zeros mostVariables))
       (sym (moved-plus (typesOf bytes) (listAt lists node) (olds old from (listAt lists node)) changes news (h .moved)))
 
   pub store-fine : Fine (typesOf bytes) values
-  store-fine = subst (Fine (typesOf bytes)) (sym store-is) (started-fine (typesOf bytes) (listAt lists node) (olds old from (listAt lists node)) changes news (h .moved))
+  store-fine = subst (Fine (typesOf bytes)) (sym store-is)
+      (started-fine (typesOf bytes) (listAt lists node) (olds old from (listAt lists node)) changes news (h .moved))
 
   pub store-near : AllNear values
   store-near = good-near (typesOf bytes) values (store-fine .good)
@@ -62,7 +64,8 @@ module _ {bytes lists : List ℕ} {node : ℕ} {old : List ℤ} {from : ℕ} {ch
   }
 
   pub news-long : length news ≡ length (listAt lists node)
-  news-long = moved-long (typesOf bytes) (listAt lists node) (olds old from (listAt lists node)) changes news (olds-long bytes lists node old from (h .standing)) (h .moved)
+  news-long = moved-long (typesOf bytes) (listAt lists node) (olds old from (listAt lists node)) changes news
+      (olds-long bytes lists node old from (h .standing)) (h .moved)
 
   -- its snapshot is the new one
   pub store-back : {base : ℕ} → Node bytes base lists node → snapshot (listAt lists node) values ≡ news
@@ -83,17 +86,20 @@ from-last {bytes} {lists} {node} {t = t} l is = record {
 -- what it comes to: so many fresh steps and these words
 abbrev pub settledAs : List ℕ → List ℕ → ℕ → List ℤ → ℕ → Reached → List ℤ → ℕ → List ℤ → Visited
 settledAs bytes lists node old place s store steps words = record {
-  changes = put (listAt lists node) (minusAll (typesOf bytes) (listAt lists node) (snapshot (listAt lists node) store) (olds old place (listAt lists node))) (s .changes .values);
+  changes = put (listAt lists node) (minusAll (typesOf bytes) (listAt lists node) (snapshot (listAt lists node) store) (olds old place (listAt lists node)))
+      (s .changes .values);
   counts = allFresh steps;
   words = words;
   rest = [];
 }
 
-module _ {bytes lists : List ℕ} {node : ℕ} {old : List ℤ} {end : ℕ} {s : Reached} (h : Sound old end s) {place : ℕ} (standing : Standing bytes lists node old place) where
+module _ {bytes lists : List ℕ} {node : ℕ} {old : List ℤ} {end : ℕ} {s : Reached} (h : Sound old end s) {place : ℕ}
+    (standing : Standing bytes lists node old place) where
   -- its words are no more than its steps and the old words up to the end allow
   pub fresh-came : {ran : Ran} {r : Reached} → FreshAs bytes lists node old place end ran s r → Good (typesOf bytes) (ran .store .values)
       → (steps : ℕ) (words : List ℤ) → ran .left + steps ≡ s .left → ran .at ≡ s .at + length words → s .from + length words ≤ weight * steps + end
-      → {out after : List ℤ} → after ≡ lay out (s .at) words → Came (settledAs bytes lists node old place s (ran .store .values) steps words) s r old end out after
+      → {out after : List ℤ} → after ≡ lay out (s .at) words
+      → Came (settledAs bytes lists node old place s (ran .store .values) steps words) s r old end out after
   unfolding stepsOf allFresh
   fresh-came {ran} {r} f good steps words left ends short lays =
       let vs = listAt lists node in
@@ -108,7 +114,8 @@ module _ {bytes lists : List ℕ} {node : ℕ} {old : List ℤ} {end : ℕ} {s :
       record {
         sound = record {
           goes = f .outcome ∙ h .goes;
-          long = ap length (f .changes) ∙ length-put vs (minusAll (typesOf bytes) vs (snapshot vs (ran .store .values)) (olds old place vs)) (s .changes .values) ∙ h .long;
+          long = ap length (f .changes) ∙ length-put vs (minusAll (typesOf bytes) vs (snapshot vs (ran .store .values)) (olds old place vs))
+              (s .changes .values) ∙ h .long;
           near = subst AllNear (sym (f .changes)) (settled-near bytes lists node old place standing (ran .store .values) good (s .changes .values) (h .near));
           inside = record { ordered = ordered; ends = h .inside .ends };
           place = place′;

@@ -41,7 +41,8 @@ use Rattle.patch.proofs.Fresh.{from-last, store-fine, store-known, stor
 use Rattle.rules.specs.Laws.Outcome.{holds-at}
 
 -- so many more iterations run fresh, where none is left of the old
-pub loop-more : (types : List Ty) (body : ℕ → List ℤ → List ℤ → Paper.Outcome Visited) (fresh : ℕ → List ℤ → Paper.Outcome Done) (vs : List ℕ) (t : Turn) (n : ℕ) → 0 < n
+pub loop-more : (types : List Ty) (body : ℕ → List ℤ → List ℤ → Paper.Outcome Visited) (fresh : ℕ → List ℤ → Paper.Outcome Done) (vs : List ℕ) (t : Turn)
+    (n : ℕ) → 0 < n
     → loop types body fresh vs 0 n t ≡ grown types (iterate fresh vs n) vs t
 unfolding loop
 loop-more types body fresh vs t zero p = absurd (omega arith)
@@ -63,7 +64,8 @@ module _ (types : List Ty) (vs : List ℕ) (t : Turn) where
       ap (λ (ws : List ℤ). finished ws >>= λ u. more (t .left) (put vs (t .new) (zeros mostVariables)) >>= λ d. accepted (grownAs d)) over
       ∙ ap (λ (store : List ℤ). more (t .left) store >>= λ d. accepted (grownAs d)) (sym is)
 
-module _ {bytes : List ℕ} {base : ℕ} {lists : List ℕ} {node body last : ℕ} {old : List ℤ} {s : Reached} (h : Endable bytes base lists node body last old (s .from) s) where
+module _ {bytes : List ℕ} {base : ℕ} {lists : List ℕ} {node body last : ℕ} {old : List ℤ} {s : Reached}
+    (h : Endable bytes base lists node body last old (s .from) s) where
   abbrev vs : List ℕ
   vs = listAt lists node
 
@@ -91,7 +93,8 @@ module _ {bytes : List ℕ} {base : ℕ} {lists : List ℕ} {node body last : �
       iterates = iterate (run b) vs more (s .left) values
 
       ran-as : RanAs iterates ran out (s .left) (s .at) after
-      ran-as = subst (λ (ws : List ℕ). RanAs (iterate (run b) ws more (s .left) values) ran out (s .left) (s .at) after) (sym (list-is k)) (p (k .tree) b (k .here) (bodied .here))
+      ran-as = subst (λ (ws : List ℕ). RanAs (iterate (run b) ws more (s .left) values) ran out (s .left) (s .at) after) (sym (list-is k))
+          (p (k .tree) b (k .here) (bodied .here))
 
       -- what is shown of the body's tree is shown of each
       each : 0 < more → (r : Reached)
@@ -109,7 +112,8 @@ module _ {bytes : List ℕ} {base : ℕ} {lists : List ℕ} {node body last : �
           ∙ grown-is types vs t (iterate (run b) vs more) over (store-is (from-last l is))))
           (f was new l)
 
-      pub grown-refused : 0 < more → {q : Refusal} → ran .outcome ≡ Refused q → (r : Reached) → r .outcome ≡ Refused q → EndsTo bytes lists node body 0 more last old (s .from) s r out after
+      pub grown-refused : 0 < more → {q : Refusal} → ran .outcome ≡ Refused q → (r : Reached) → r .outcome ≡ Refused q
+          → EndsTo bytes lists node body 0 more last old (s .from) s r out after
       grown-refused some stops r e = each some r λ was new l. of iterates ran-as (turnAt s old (s .from) was new)
         where
           of : (m : Paper.Outcome Done) → RanAs m ran out (s .left) (s .at) after → (t : Turn)
@@ -139,12 +143,14 @@ module _ {bytes : List ℕ} {base : ℕ} {lists : List ℕ} {node body last : �
             let few : length vs ≤ 32 = omega (arith, row .few, row-long row) in
             holds-at (got .comes) (bounded-iterate (run b) vs few (words-bounded b (bodied .small)) more (s .left) values)
 
-        pub grown-answer : 0 < more → (r : Reached) → FreshAs bytes lists node old last (s .from) ran s r → EndsTo bytes lists node body 0 more last old (s .from) s r out after
+        pub grown-answer : 0 < more → (r : Reached) → FreshAs bytes lists node old last (s .from) ran s r
+            → EndsTo bytes lists node body 0 more last old (s .from) s r out after
         grown-answer some r fresh = each some r λ was new l.
             let t = turnAt s old (s .from) was new in
             let room : s .from + length (d .words) ≤ weight * d .steps + s .from = omega (arith, short) in
             let came : Came (settledAs bytes lists node old last s (ran .store .values) (d .steps) (d .words)) s r old (s .from) out after
-            = fresh-came (h .turnable .sound) (h .lastly .standing) fresh good (d .steps) (d .words) (got .ended .leaves) (got .ended .ends) room (got .ended .lays) in
+            = fresh-came (h .turnable .sound) (h .lastly .standing) fresh good (d .steps) (d .words) (got .ended .leaves) (got .ended .ends) room
+            (got .ended .lays) in
             subst (λ (m : Paper.Outcome Done). WalkAs (m >>= λ f. accepted (grownAs types vs t f)) s r old (s .from) out after) (sym (got .comes))
             (subst (λ (cs : List ℤ). Came (whole (record { changes = put vs cs (s .changes .values); counts = allFresh (d .steps); words = d .words })) s r old (s .from) out after)
             (ap₂ {C = List ℤ} (λ (store was′ : List ℤ). minusAll types vs (snapshot vs store) was′) (got .ended .stores) (sym (l .was))) came)

@@ -72,7 +72,8 @@ module _ {bytes : List ℕ} (z : Sized bytes) (old : List ℤ) where
       (fit (typesOf bytes) (inputsOf (typesOf bytes) old)) (fit (typesOf bytes) (outputsOf (typesOf bytes) old))
 
   -- each test as the code says it
-  pub header-by : (a b d e f g : Bool) → a ≡ leb (3 + 2 * variables bytes) (length old) → b ≡ between (pos (3 + 2 * variables bytes)) (pos (length old)) (at old 0)
+  pub header-by : (a b d e f g : Bool) → a ≡ leb (3 + 2 * variables bytes) (length old)
+      → b ≡ between (pos (3 + 2 * variables bytes)) (pos (length old)) (at old 0)
       → d ≡ between (pos 1) mostSteps (at old 1) → e ≡ between (pos 1) (at old 1) (at old 2)
       → f ≡ fit (typesOf bytes) (inputsOf (typesOf bytes) old) → g ≡ fit (typesOf bytes) (outputsOf (typesOf bytes) old)
       → HeadedAs (header (typesOf bytes) old) (a && (b && (d && (e && (f && g)))))
@@ -144,7 +145,8 @@ header-whole types old =
     })
 
 -- such a length is a count of the code
-pub size-cast : (z : ℤ) (n : ℕ) → SFits w64 z → z ≡ pos (natAbs z) → natAbs z ≤ n → n < 9_223_372_036_854_775_808 → T (nonNeg (kept z)) × Fits w64 (natAbs (kept z))
+pub size-cast : (z : ℤ) (n : ℕ) → SFits w64 z → z ≡ pos (natAbs z) → natAbs z ≤ n → n < 9_223_372_036_854_775_808
+    → T (nonNeg (kept z)) × Fits w64 (natAbs (kept z))
 size-cast z n f is le small =
     let back : kept z ≡ z = toZ-ofZ w64 z f in
     let up : T (nonNeg z) = subst (λ (y : ℤ). T (nonNeg y)) (sym is) tt in

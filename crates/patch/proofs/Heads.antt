@@ -41,7 +41,8 @@ head-by : (word : ℤ) (o : Paper.Outcome Patched) (r : Bool) (out : List ℤ) (
 head-by word (accepted p) r out place after h = h
 head-by word (refused q) r out place after h = h
 
-module _ {bytes lists : List ℕ} {node : ℕ} {old : List ℤ} {from end : ℕ} {changes : List ℤ} {place : ℕ} (h : Headable bytes lists node old from end changes place) (kind : ℕ)
+module _ {bytes lists : List ℕ} {node : ℕ} {old : List ℤ} {from end : ℕ} {changes : List ℤ} {place : ℕ}
+    (h : Headable bytes lists node old from end changes place) (kind : ℕ)
     (out after : List ℤ) where
   pub head-none : end ≤ from → HeadTo bytes lists node kind old from end changes false out place after
   unfolding headOf readIn read
@@ -54,7 +55,8 @@ module _ {bytes lists : List ℕ} {node : ℕ} {old : List ℤ} {from end : ℕ}
         let typed : inType (tyOf kind) (at old from) ≡ false = ap (inType (tyOf kind)) (sym is) ∙ wrong in
         rw (part-next old from end below (h .inside .ends), typed) (refl, refl)
 
-    pub head-snapped : inType (tyOf kind) word ≡ true → (r : Bool) → PatchedAs (patched (typesOf bytes) (listAt lists node) changes (part old (from + 1) end)) r out (place + 1) after
+    pub head-snapped : inType (tyOf kind) word ≡ true → (r : Bool)
+        → PatchedAs (patched (typesOf bytes) (listAt lists node) changes (part old (from + 1) end)) r out (place + 1) after
         → HeadTo bytes lists node kind old from end changes r out place after
     unfolding headOf readIn read
     head-snapped right r p =
@@ -64,7 +66,8 @@ module _ {bytes lists : List ℕ} {node : ℕ} {old : List ℤ} {from end : ℕ}
 
 -- ---- the head of a node that the walk has entered
 
-module _ {bytes : List ℕ} {base : ℕ} {lists : List ℕ} {node : ℕ} {old : List ℤ} {end : ℕ} {s : Reached} {kind : ℕ} (h : Enterable bytes base lists node old end s kind) where
+module _ {bytes : List ℕ} {base : ℕ} {lists : List ℕ} {node : ℕ} {old : List ℤ} {end : ℕ} {s : Reached} {kind : ℕ}
+    (h : Enterable bytes base lists node old end s kind) where
   abbrev k : Known bytes base lists node
   k = h .known
 
@@ -89,7 +92,8 @@ module _ {bytes : List ℕ} {base : ℕ} {lists : List ℕ} {node : ℕ} {old : 
     pub reads : HeadAt bytes lists node (named-of k) old (s .from) end (h .sound .inside .ends) (s .changes .values) t head
     pub lays : one ≡ lay out (s .at + 1) (head .snap .new)
 
-  module _ (byte : ℕ) (t : Ty) (is : tyOf byte ≡ t) (out one : List ℤ) (fits : Bool) (p : HeadTo bytes lists node byte old (s .from) end (s .changes .values) fits out (s .at) one) where
+  module _ (byte : ℕ) (t : Ty) (is : tyOf byte ≡ t) (out one : List ℤ) (fits : Bool)
+      (p : HeadTo bytes lists node byte old (s .from) end (s .changes .values) fits out (s .at) one) where
     answer : HeadAs (headed t) fits out (s .at) one
     answer = subst (λ (u : Ty). HeadAs (headed u) fits out (s .at) one) is p
 
@@ -131,7 +135,8 @@ module _ {bytes : List ℕ} {base : ℕ} {lists : List ℕ} {node : ℕ} {old : 
 
 -- ---- the snapshot after an iteration
 
-module _ {bytes lists : List ℕ} {node : ℕ} {old : List ℤ} {end : ℕ} {s : Reached} (n : Named bytes lists node) (h : Sound old end s) (out after : List ℤ) (r : Reached) {fits : Bool}
+module _ {bytes lists : List ℕ} {node : ℕ} {old : List ℤ} {end : ℕ} {s : Reached} (n : Named bytes lists node) (h : Sound old end s) (out after : List ℤ)
+    (r : Reached) {fits : Bool}
     (p : PatchedAs (patched (typesOf bytes) (listAt lists node) (s .changes .values) (part old (s .from) end)) fits out (s .at) after) where
   pub snapped-broken : fits ≡ false → r .outcome ≡ Refused (refusalFor broken) → SnapsTo bytes lists node old end s r out after
   snapped-broken wrong stops = by (patched (typesOf bytes) (listAt lists node) (s .changes .values) (part old (s .from) end)) p

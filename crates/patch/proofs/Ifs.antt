@@ -52,7 +52,8 @@ module _ {bytes : List ℕ} {base : ℕ} {lists : List ℕ} {node : ℕ} {old : 
   forks = forkOf types (mentions own) (its .e) (s .left) (s .changes .values) (part old (s .from) end)
 
   -- what is shown of the node's own if is shown of each tree of the node
-  each-if : (r : Reached) (out after : List ℤ) → WalkAs (forks >>= branchOf types (its .s) (its .t)) s r old end out after → WalksTo bytes node old end s r out after
+  each-if : (r : Reached) (out after : List ℤ) → WalkAs (forks >>= branchOf types (its .s) (its .t)) s r old end out after
+      → WalksTo bytes node old end s r out after
   each-if r out after w = for-tree (h .known) (λ t. WalkAs (walk types t (s .left) (s .changes .values) (part old (s .from) end)) s r old end out after)
       (subst (λ (t : Statement). WalkAs (walk types t (s .left) (s .changes .values) (part old (s .from) end)) s r old end out after) (sym (its .is))
       (subst (λ (m : Paper.Outcome Walked). WalkAs m s r old end out after) (sym (walk-if types node (its .e) (its .s) (its .t) (s .left) (s .changes .values) (part old (s .from) end))) w))
@@ -115,7 +116,8 @@ module _ {bytes : List ℕ} {base : ℕ} {lists : List ℕ} {node : ℕ} {old : 
       branch-kept none r after g = by true (ap (λ (z : ℤ). eqZ z (pos 0)) (sym (told .changes) ∙ none) ∙ eqZ-refl (pos 0)) r after
           (g node (its .e) (its .s) (its .t) own-here (told .fork) (told .comes) out (told .laid))
 
-      pub branch-flipped : (change ≡ pos 0 → ⊥) → {z : ℤ} → z ≡ change → (r : Reached) (after : List ℤ) → FlipsTo bytes node z old end s r one after → WalksTo bytes node old end s r out after
+      pub branch-flipped : (change ≡ pos 0 → ⊥) → {z : ℤ} → z ≡ change → (r : Reached) (after : List ℤ) → FlipsTo bytes node z old end s r one after
+          → WalksTo bytes node old end s r out after
       branch-flipped other-than e r after g = by false (other (told .fork .test .change) (λ n. other-than (told .changes ∙ n))) r after
           (g node (its .e) (its .s) (its .t) own-here (told .fork) (told .comes) (e ∙ told .changes) out (told .laid))
         where

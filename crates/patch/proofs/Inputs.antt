@@ -107,7 +107,8 @@ module _ (kind : ℕ) (z c : ℤ) (h : inType (tyOf kind) z ≡ true) where
       word (z +ℤ c) (omega (arith, mag-add z c, mag-in z inside, between-mag c right))
 
   pub change-number : kind ≡ 0 → inType (tyOf 0) (z +ℤ c) ≡ legalChange (tyOf kind) z c
-  change-number e = ap (λ (t : Ty). inType t (z +ℤ c)) (number-kind 0 refl) ∙ sym (number-legal z c) ∙ ap (λ (t : Ty). legalChange t z c) (sym (number-kind kind e))
+  change-number e = ap (λ (t : Ty). inType t (z +ℤ c)) (number-kind 0 refl) ∙ sym (number-legal z c)
+      ∙ ap (λ (t : Ty). legalChange t z c) (sym (number-kind kind e))
 
   pub change-truth : (kind ≡ 0 → ⊥) → between (pos 0) (pos 1) c ≡ legalChange (tyOf kind) z c
   unfolding inType
@@ -143,7 +144,8 @@ legal-near [] [] (c ∷ cs) f h v = absurd (false≢true h)
 legal-near (t ∷ ts) [] changes f h v = absurd (false≢true h)
 legal-near (t ∷ ts) (z ∷ zs) [] f h v = absurd (false≢true h)
 legal-near (t ∷ ts) (z ∷ zs) (c ∷ cs) f h zero = change-in t z c (and-left (inType t z) (fit ts zs) f) (and-left (legalChange t z c) (legal ts zs cs) h)
-legal-near (t ∷ ts) (z ∷ zs) (c ∷ cs) f h (suc v) = legal-near ts zs cs (and-right (inType t z) (fit ts zs) f) (and-right (legalChange t z c) (legal ts zs cs) h) v
+legal-near (t ∷ ts) (z ∷ zs) (c ∷ cs) f h (suc v) = legal-near ts zs cs (and-right (inType t z) (fit ts zs) f)
+    (and-right (legalChange t z c) (legal ts zs cs) h) v
 
 -- the table's types are there
 pub types-inside : {bytes : List ℕ} → Sized bytes → nodesAt bytes ≤ length bytes
@@ -167,13 +169,15 @@ module _ {bytes : List ℕ} (z : Sized bytes) where
       legal-none other = refuted (legal (typesOf bytes) inputs changes) λ e. other (legal-long (typesOf bytes) inputs changes e ∙ many)
 
       -- a change that its input may not take
-      pub legal-not : (k : ℕ) → k < variables bytes → legalChange (typeBy bytes k) (at inputs k) (at changes k) ≡ false → false ≡ legal (typesOf bytes) inputs changes
+      pub legal-not : (k : ℕ) → k < variables bytes → legalChange (typeBy bytes k) (at inputs k) (at changes k) ≡ false
+          → false ≡ legal (typesOf bytes) inputs changes
       legal-not k below wrong =
           refuted (legal (typesOf bytes) inputs changes) λ e.
           true≢false (sym (legal-at (typesOf bytes) inputs changes e k (omega (arith, many))) ∙ ap (λ (t : Ty). legalChange t (at inputs k) (at changes k)) (type-at bytes (types-inside z) k below) ∙ wrong)
 
       -- every input may take its change
-      pub legal-all : length changes ≡ variables bytes → ((k : ℕ) → k < variables bytes → legalChange (typeBy bytes k) (at inputs k) (at changes k) ≡ true) → true ≡ legal (typesOf bytes) inputs changes
+      pub legal-all : length changes ≡ variables bytes → ((k : ℕ) → k < variables bytes → legalChange (typeBy bytes k) (at inputs k) (at changes k) ≡ true)
+          → true ≡ legal (typesOf bytes) inputs changes
       legal-all each right =
           sym (legal-each (typesOf bytes) inputs changes (fit-long (typesOf bytes) inputs fits) (each ∙ sym many) λ k below.
           let less : k < variables bytes = omega (arith, many) in
@@ -181,7 +185,8 @@ module _ {bytes : List ℕ} (z : Sized bytes) where
 
 -- ---- values with their changes
 
-sums-long : (types : List Ty) (words changes : List ℤ) → length words ≡ length types → length types ≤ length changes → length (plusAll types words changes) ≡ length types
+sums-long : (types : List Ty) (words changes : List ℤ) → length words ≡ length types → length types ≤ length changes
+    → length (plusAll types words changes) ≡ length types
 unfolding plusAll
 sums-long [] words changes e le = refl
 sums-long (t ∷ ts) [] changes e le = absurd (omega (arith, e))
@@ -198,7 +203,8 @@ sums-at (t ∷ ts) (z ∷ zs) (c ∷ cs) e le zero below = refl
 sums-at (t ∷ ts) (z ∷ zs) (c ∷ cs) e le (suc k) below = sums-at ts zs cs (omega (arith, e)) (omega (arith, le)) k (omega (arith, below))
 
 -- one for each variable
-pub sums-length : {bytes : List ℕ} → Sized bytes → (words changes : List ℤ) → fit (typesOf bytes) words ≡ true → variables bytes ≤ length changes → length (plusAll (typesOf bytes) words changes) ≡ variables bytes
+pub sums-length : {bytes : List ℕ} → Sized bytes → (words changes : List ℤ) → fit (typesOf bytes) words ≡ true → variables bytes ≤ length changes
+    → length (plusAll (typesOf bytes) words changes) ≡ variables bytes
 sums-length {bytes} z words changes fits enough = sums-long (typesOf bytes) words changes (fit-long (typesOf bytes) words fits) (omega (arith, many z)) ∙ many z
 
 module _ {bytes : List ℕ} {words changes : List ℤ} (s : Sums bytes words changes) where

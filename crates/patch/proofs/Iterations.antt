@@ -43,12 +43,14 @@ behind-none t (accepted a) =
     counts : (c : Counts) → c ≡ record { walked = 0 + c .walked; reused = 0 + c .reused; fresh = 0 + c .fresh }
     counts c = rw (zero-add (c .walked), zero-add (c .reused), zero-add (c .fresh)) refl
 
-behind-turn : (d a : Turned) (m : Paper.Outcome Turned) → ((m >>= λ c. accepted (behind a c)) >>= λ c. accepted (behind d c)) ≡ (m >>= λ c. accepted (behind (behind d a) c))
+behind-turn : (d a : Turned) (m : Paper.Outcome Turned)
+    → ((m >>= λ c. accepted (behind a c)) >>= λ c. accepted (behind d c)) ≡ (m >>= λ c. accepted (behind (behind d a) c))
 behind-turn d a (refused q) = refl
 behind-turn d a (accepted c) = ap₂ {C = Paper.Outcome Turned} (λ (n : Counts) (ws : List ℤ). accepted (record { turn = c .turn; counts = n; words = ws }))
     (both-assoc (d .counts) (a .counts) (c .counts)) (sym (append-assoc (d .words) (a .words) (c .words)))
 
-module _ {bytes : List ℕ} {base : ℕ} {lists : List ℕ} {node body : ℕ} {old : List ℤ} {end : ℕ} {s : Reached} (h : Turnable bytes base lists node body old end s) (count : ℕ) (out : List ℤ) where
+module _ {bytes : List ℕ} {base : ℕ} {lists : List ℕ} {node body : ℕ} {old : List ℤ} {end : ℕ} {s : Reached}
+    (h : Turnable bytes base lists node body old end s) (count : ℕ) (out : List ℤ) where
   abbrev vs : List ℕ
   vs = listAt lists node
 
@@ -62,7 +64,8 @@ module _ {bytes : List ℕ} {base : ℕ} {lists : List ℕ} {node body : ℕ} {o
   pub record Iterated (i : ℕ) (r : Reached) (now : List ℤ) (first : ℕ) (was new : List ℤ) : Type 0 where
     pub done : Turned
     pub came : TurnCame bytes lists node (lastOf i first (r .from) (length vs)) done s r old end out now
-    pub goes-on : (m : ℕ) → i + m ≡ count → turnsOf types bodyOf vs count (turnAt s old end was new) ≡ (turnsOf types bodyOf vs m (done .turn) >>= λ a. accepted (behind done a))
+    pub goes-on : (m : ℕ) → i + m ≡ count → turnsOf types bodyOf vs count (turnAt s old end was new)
+        ≡ (turnsOf types bodyOf vs m (done .turn) >>= λ a. accepted (behind done a))
 
   -- the invariant of the loop
   pub record SoFar (i : ℕ) (r : Reached) (now : List ℤ) : Type 0 where
@@ -123,7 +126,8 @@ module _ {bytes : List ℕ} {base : ℕ} {lists : List ℕ} {node body : ℕ} {o
         counts c = rw (add-zero (c .walked), add-zero (c .reused), add-zero (c .fresh)) refl
 
         nothing-more : (a : Turned) → accepted (record { turn = a .turn; counts = record { walked = a .counts .walked + 0; reused = a .counts .reused + 0; fresh = a .counts .fresh + 0 }; words = a .words ++ [] }) ≡ accepted a
-        nothing-more a = ap₂ {C = Paper.Outcome Turned} (λ (c : Counts) (ws : List ℤ). accepted (record { turn = a .turn; counts = c; words = ws })) (counts (a .counts)) (append-nil (a .words))
+        nothing-more a = ap₂ {C = Paper.Outcome Turned} (λ (c : Counts) (ws : List ℤ). accepted (record { turn = a .turn; counts = c; words = ws }))
+            (counts (a .counts)) (append-nil (a .words))
 
     pub again-turnable : Turnable bytes base lists node body old end r
     again-turnable = record { known = h .known; bodied = h .bodied; within = h .within; sound = so .sound }
@@ -135,7 +139,8 @@ module _ {bytes : List ℕ} {base : ℕ} {lists : List ℕ} {node body : ℕ} {o
 
       next : (first : ℕ) (was new : List ℤ) (it : Iterated i r now first was new)
           → TurnAs bytes lists node 1 0 (turnOf types bodyOf vs (it .done .turn)) r u old end now one
-      next first was new it = subst (λ (t : Turn). TurnAs bytes lists node 1 0 (turnOf types bodyOf vs t) r u old end now one) (same-turn (it .done) _ (it .came))
+      next first was new it = subst (λ (t : Turn). TurnAs bytes lists node 1 0 (turnOf types bodyOf vs t) r u old end now one)
+          (same-turn (it .done) _ (it .came))
           (p (h .bodied .tree) (h .bodied .here) (it .done .turn .old) (it .done .turn .new))
 
       pub again-refused : {q : Refusal} → u .outcome ≡ Refused q → (final : List ℤ) → TurnsTo bytes lists node body count old end s u out final
@@ -146,13 +151,15 @@ module _ {bytes : List ℕ} {base : ℕ} {lists : List ℕ} {node body : ℕ} {o
           subst (λ (m : Paper.Outcome Turned). TurnAs bytes lists node count first m s u old end out final) (sym (it .goes-on (suc (count - suc i)) more))
           (twice first (turnOf types bodyOf vs (it .done .turn)) (λ a. turnsOf types bodyOf vs (count - suc i) (a .turn) >>= λ b. accepted (behind a b)) (λ a. accepted (behind (it .done) a)) (next first was new it) stops)
         where
-          twice : (first : ℕ) (m : Paper.Outcome Turned) (f g : Turned → Paper.Outcome Turned) → TurnAs bytes lists node 1 0 m r u old end now one → {q : Refusal} → u .outcome ≡ Refused q
+          twice : (first : ℕ) (m : Paper.Outcome Turned) (f g : Turned → Paper.Outcome Turned) → TurnAs bytes lists node 1 0 m r u old end now one
+              → {q : Refusal} → u .outcome ≡ Refused q
               → TurnAs bytes lists node count first ((m >>= f) >>= g) s u old end out final
           twice first (accepted a) f g k e = absurd (accepted-refused (sym (k .came .sound .goes) ∙ e))
           twice first (refused q) f g k e = k
 
       module _ (goes : u .outcome ≡ Accepted) where
-        step : (m : Paper.Outcome Turned) → TurnAs bytes lists node 1 0 m r u old end now one → (first : ℕ) (was new : List ℤ) (it : Iterated i r now first was new) → turnOf types bodyOf vs (it .done .turn) ≡ m
+        step : (m : Paper.Outcome Turned) → TurnAs bytes lists node 1 0 m r u old end now one
+            → (first : ℕ) (was new : List ℤ) (it : Iterated i r now first was new) → turnOf types bodyOf vs (it .done .turn) ≡ m
             → Iterated (i + 1) u one first was new
         unfolding turnsOf
         step (refused q) k first was new it is = absurd (accepted-refused (sym goes ∙ k))
@@ -177,7 +184,8 @@ module _ {bytes : List ℕ} {base : ℕ} {lists : List ℕ} {node body : ℕ} {o
         pub again-done : SoFar (i + 1) u one
         again-done = record {
           sound = sounds (turnOf types bodyOf vs (turnAt r old end [] [])) (p (h .bodied .tree) (h .bodied .here) [] []);
-          each = λ first was new last. step (turnOf types bodyOf vs (so .each first was new last .done .turn)) (next first was new (so .each first was new last)) first was new (so .each first was new last) refl;
+          each = λ first was new last. step (turnOf types bodyOf vs (so .each first was new last .done .turn))
+              (next first was new (so .each first was new last)) first was new (so .each first was new last) refl;
           long = longer (turnOf types bodyOf vs (turnAt r old end [] [])) (p (h .bodied .tree) (h .bodied .here) [] []);
         }
           where

@@ -24,5 +24,6 @@ module _ {bytes : List ℕ} {base : ℕ} {lists : List ℕ} {node : ℕ} {old : 
   unfolding mentions unchanged
   no-skip e = true≢false (sym (ap (λ (t : Statement). unchanged (mentions t) (s .changes .values)) (statement-of (Run.built (h .known) Kind.skip e))) ∙ h .changed)
 
-  pub last-is-repeat : (nodeAt bytes node .kind ≡ 17 → ⊥) → (nodeAt bytes node .kind ≡ 18 → ⊥) → (nodeAt bytes node .kind ≡ 19 → ⊥) → nodeAt bytes node .kind ≡ 20
+  pub last-is-repeat : (nodeAt bytes node .kind ≡ 17 → ⊥) → (nodeAt bytes node .kind ≡ 18 → ⊥) → (nodeAt bytes node .kind ≡ 19 → ⊥)
+      → nodeAt bytes node .kind ≡ 20
   last-is-repeat = last-kind (h .known) (sym (Run.read-field (h .known) (λ n. n .kind) refl)) no-skip

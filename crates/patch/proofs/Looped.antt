@@ -93,7 +93,8 @@ module _ {bytes : List ℕ} {base : ℕ} {lists : List ℕ} {node : ℕ} {old : 
         size = numbered .sizes;
       }
 
-      pub looped-answer : {z : ℤ} → z ≡ new → (r : Reached) (after : List ℤ) → IteratesTo bytes node z old end s r one after → WalksTo bytes node old end s r out after
+      pub looped-answer : {z : ℤ} → z ≡ new → (r : Reached) (after : List ℤ) → IteratesTo bytes node z old end s r one after
+          → WalksTo bytes node old end s r out after
       looped-answer e r after g = each-repeat r out after (subst (λ (m : Paper.Outcome Walked). WalkAs m s r old end out after)
           (sym (ap (λ (m : Paper.Outcome Count). m >>= going) (numbered .comes)))
           (g node (its .e) (its .s) own-here (numbered .count) (numbered .comes) (e ∙ numbered .news) out (numbered .laid)))

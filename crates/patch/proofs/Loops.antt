@@ -29,7 +29,8 @@ use Rattle.pieces.specs.declared.entry.Reached.{Reached}
 use Rattle.patch.proofs.Walks.{Gone, gone, handed-up, sound-advanced}
 use Rattle.patch.proofs.Nodes.{for-tree, named-of}
 
-module _ {bytes : List ℕ} {base : ℕ} {lists : List ℕ} {node body : ℕ} {old : List ℤ} {end : ℕ} {s : Reached} (h : Turnable bytes base lists node body old end s) where
+module _ {bytes : List ℕ} {base : ℕ} {lists : List ℕ} {node body : ℕ} {old : List ℤ} {end : ℕ} {s : Reached}
+    (h : Turnable bytes base lists node body old end s) where
   abbrev vs : List ℕ
   vs = listAt lists node
 
@@ -94,16 +95,21 @@ module _ {bytes : List ℕ} {base : ℕ} {lists : List ℕ} {node body : ℕ} {o
       turn-is : (was new : List ℤ) → turnOf types bodyOf vs (turnAt s old end was new) ≡ (snaps >>= λ q. accepted (turned (turnAt s old end was new) v q))
       unfolding turnOf
       turn-is was new =
-          ap (λ (m : Paper.Outcome Visited). m >>= λ w. patched types vs (w .changes) (w .rest) >>= λ q. accepted (turned (turnAt s old end was new) w q)) (went .comes)
-          ∙ ap₂ {C = Paper.Outcome Turned} (λ (cs ws : List ℤ). patched types vs cs ws >>= λ q. accepted (turned (turnAt s old end was new) v q)) (sym (came .changes)) (came .rest)
+          ap (λ (m : Paper.Outcome Visited). m >>= λ w. patched types vs (w .changes) (w .rest) >>= λ q. accepted (turned (turnAt s old end was new) w q))
+          (went .comes)
+          ∙ ap₂ {C = Paper.Outcome Turned} (λ (cs ws : List ℤ). patched types vs cs ws >>= λ q. accepted (turned (turnAt s old end was new) v q))
+          (sym (came .changes)) (came .rest)
 
-      closes : (r : Reached) (two : List ℤ) (q : Patched) → snaps ≡ accepted q → AdvancedBy (length vs) u r → two ≡ lay one (u .at) (q .new) → (was new : List ℤ)
+      closes : (r : Reached) (two : List ℤ) (q : Patched) → snaps ≡ accepted q → AdvancedBy (length vs) u r → two ≡ lay one (u .at) (q .new)
+          → (was new : List ℤ)
           → TurnCame bytes lists node (r .from - length vs) (turned (turnAt s old end was new) v q) s r old end out two
       closes r two q is step laid was new =
           let w = length vs in
           let a : PatchedAt bytes lists node named old (u .from) end (came .sound .inside) (u .changes .values) q
           = patched-at bytes lists node named old (u .from) end (came .sound .inside) (u .changes .values) q is in
-          let width : length (q .new) ≡ w = moved-long types vs (q .old) (u .changes .values) (q .new) (ap length (a .was) ∙ olds-long bytes lists node old (u .from) (a .standing)) (a .moved) in
+          let width : length (q .new) ≡ w
+          = moved-long types vs (q .old) (u .changes .values) (q .new) (ap length (a .was) ∙ olds-long bytes lists node old (u .from) (a .standing))
+          (a .moved) in
           let place : u .from + w ≡ r .from = sym (step .from) in
           let here : u .from ≡ r .from - w = omega (arith, step .from) in
           let leaves : r .left + stepsOf (v .counts) ≡ s .left = omega (arith, came .leaves, step .left) in
@@ -122,7 +128,8 @@ module _ {bytes : List ℕ} {base : ℕ} {lists : List ℕ} {node body : ℕ} {o
               rest = a .rest ∙ ap (λ (p : ℕ). part old p end) place;
               onward = onward;
               ends = ends;
-              lays = laid ∙ ap₂ {C = List ℤ} (λ (l : List ℤ) (i : ℕ). lay l i (q .new)) (came .lays) (came .ends) ∙ sym (lay-append out (s .at) (v .words) (q .new));
+              lays = laid ∙ ap₂ {C = List ℤ} (λ (l : List ℤ) (i : ℕ). lay l i (q .new)) (came .lays) (came .ends)
+                  ∙ sym (lay-append out (s .at) (v .words) (q .new));
             };
             left = left;
             lastly = subst (λ (i : ℕ). LastAt bytes lists node old i (turned (turnAt s old end was new) v q .turn)) here (record {
@@ -133,7 +140,8 @@ module _ {bytes : List ℕ} {base : ℕ} {lists : List ℕ} {node body : ℕ} {o
           }
 
       pub turn-answer : (r : Reached) (two : List ℤ) → SnapsTo bytes lists node old end u r one two → TurnTo bytes lists node body old end s r out two
-      turn-answer r two g = each r two λ was new. subst (λ (m : Paper.Outcome Turned). TurnAs bytes lists node 1 0 m s r old end out two) (sym (turn-is was new)) (ended snaps refl g was new)
+      turn-answer r two g = each r two λ was new. subst (λ (m : Paper.Outcome Turned). TurnAs bytes lists node 1 0 m s r old end out two)
+          (sym (turn-is was new)) (ended snaps refl g was new)
         where
           ended : (m : Paper.Outcome Patched) → snaps ≡ m → SnapAs (length vs) m u r one two → (was new : List ℤ)
               → TurnAs bytes lists node 1 0 (m >>= λ q. accepted (turned (turnAt s old end was new) v q)) s r old end out two

@@ -97,7 +97,9 @@ module _ {bytes : List ℕ} {base : ℕ} {lists : List ℕ} {node : ℕ} {old : 
 
       pub pay-refused : {q : Refusal} → r .outcome ≡ Refused q → (after : List ℤ) → PaysTo bytes node old stop s r out after
       pay-refused stops after = each after λ end e beyond parts behind.
-          handed-up (λ w. Came (whole w) u r old stop out one) (λ v. Came v s r old end out after) (own (u .left) (s .changes .values) (part old (s .from + 3) stop)) (λ w. accepted (shut node (e .behind) w)) r inside (λ w c. c .sound .goes) stops
+          handed-up (λ w. Came (whole w) u r old stop out one) (λ v. Came v s r old end out after)
+          (own (u .left) (s .changes .values) (part old (s .from + 3) stop)) (λ w. accepted (shut node (e .behind) w)) r inside
+          (λ w c. c .sound .goes) stops
 
       module _ (goes : r .outcome ≡ Accepted) where
         went : Gone (λ w. Came (whole w) u r old stop out one) (own (u .left) (s .changes .values) (part old (s .from + 3) stop))
@@ -139,7 +141,8 @@ module _ {bytes : List ℕ} {base : ℕ} {lists : List ℕ} {node : ℕ} {old : 
             (came .lays ∙ ap (λ (i : ℕ). lay out i words) (step .at))
             ∙ three-before out words (s .at) (pos node) (pos (3 + length words)) (pos (suc (c .walked) + c .reused + c .fresh))
 
-        closes : (two : List ℤ) → Opened one (s .at) node (r .at - s .at) (s .left - r .left) two → (end : ℕ) (e : Entry) → Inside old stop end → e .behind ≡ part old stop end
+        closes : (two : List ℤ) → Opened one (s .at) node (r .at - s .at) (s .left - r .left) two → (end : ℕ) (e : Entry) → Inside old stop end
+            → e .behind ≡ part old stop end
             → Came (shut node (e .behind) (went .value)) s r old end out two
         unfolding entry stepsOf oneWalked
         closes two o end e beyond behind =

@@ -43,7 +43,8 @@ turn-same t r old end l c e =
     ap₂ {C = Turn} (λ (n : ℕ) (cs : List ℤ). record { left = n; changes = cs; old = t .old; new = t .new; rest = part old (r .from) end }) (sym l) c
     ∙ ap (λ (ws : List ℤ). record { left = t .left; changes = t .changes; old = t .old; new = t .new; rest = ws }) (sym e)
 
-module _ {bytes : List ℕ} {base : ℕ} {lists : List ℕ} {node : ℕ} {new : ℤ} {size : ℕ} {old : List ℤ} {end : ℕ} {s : Reached} (h : Counted bytes base lists node new size old end s) where
+module _ {bytes : List ℕ} {base : ℕ} {lists : List ℕ} {node : ℕ} {new : ℤ} {size : ℕ} {old : List ℤ} {end : ℕ} {s : Reached}
+    (h : Counted bytes base lists node new size old end s) where
   abbrev k : Node bytes base lists node
   k = h .entered .known
 
@@ -87,7 +88,8 @@ module _ {bytes : List ℕ} {base : ℕ} {lists : List ℕ} {node : ℕ} {new : 
     starts = record {
       standing = counted-at h .first;
       was = counted-at h .was;
-      moved = subst (λ (d : Changes). movedAll types vs (c .head .snap .old) (d .values) ≡ accepted (c .head .snap .new)) (sym (step .changes)) (counted-at h .moved);
+      moved = subst (λ (d : Changes). movedAll types vs (c .head .snap .old) (d .values) ≡ accepted (c .head .snap .new)) (sym (step .changes))
+          (counted-at h .moved);
     }
 
     abbrev bodyOf : ℕ → List ℤ → List ℤ → Paper.Outcome Visited
@@ -108,7 +110,8 @@ module _ {bytes : List ℕ} {base : ℕ} {lists : List ℕ} {node : ℕ} {new : 
     abbrev shut : Walked → Walked
     shut w = record { changes = w .changes; counts = w .counts; words = repeatWords (c .count .change) (c .head .snap .new) (c .count .words) (w .words) }
 
-    repeated-is : repeated types vs (h .b) c (s .left) (s .changes .values) ≡ ((stays >>= λ a. rest a >>= λ w. accepted (joined a w)) >>= λ w. accepted (shut w))
+    repeated-is : repeated types vs (h .b) c (s .left) (s .changes .values)
+        ≡ ((stays >>= λ a. rest a >>= λ w. accepted (joined a w)) >>= λ w. accepted (shut w))
     unfolding repeated
     repeated-is =
         let place : s .from + 1 + length vs + length (c .count .words) ≡ u .from = omega (arith, step .from, h .size) in
@@ -125,8 +128,10 @@ module _ {bytes : List ℕ} {base : ℕ} {lists : List ℕ} {node : ℕ} {new : 
     -- ---- every way to know the node's repeat is this one
 
     abbrev repeatOf : List ℤ → (List ℕ → Statement → Count → List ℤ → Type 0) → Statement → Type 0
-    repeatOf out Q (Statement.repeat n e b) = (d : Count) → countOf types (mentions (Statement.repeat n e b)) e (s .changes .values) (part old (s .from) end) ≡ accepted d
-        → new ≡ d .count .change → (out₀ : List ℤ) → out ≡ countLaid (mentions (Statement.repeat n e b)) out₀ (s .at) d → Q (mentions (Statement.repeat n e b)) b d out₀
+    repeatOf out Q (Statement.repeat n e b) = (d : Count) → countOf types (mentions (Statement.repeat n e b)) e (s .changes .values)
+        (part old (s .from) end) ≡ accepted d
+        → new ≡ d .count .change → (out₀ : List ℤ) → out ≡ countLaid (mentions (Statement.repeat n e b)) out₀ (s .at) d
+        → Q (mentions (Statement.repeat n e b)) b d out₀
     repeatOf out Q (Statement.skip n) = Unit {0}
     repeatOf out Q (Statement.assign n v e) = Unit {0}
     repeatOf out Q (Statement.sequence n a b) = Unit {0}
@@ -137,7 +142,8 @@ module _ {bytes : List ℕ} {base : ℕ} {lists : List ℕ} {node : ℕ} {new : 
         → IteratesTo bytes node new old end s x out final
     each out final x w n e b here = subst (repeatOf out (λ ws b d out₀. WalkAs (repeated types ws b d (s .left) (s .changes .values)) s x old end out₀ final)) (same-tree (h .here) here) own
       where
-        own : repeatOf out (λ ws b d out₀. WalkAs (repeated types ws b d (s .left) (s .changes .values)) s x old end out₀ final) (Statement.repeat node (h .e) (h .b))
+        own : repeatOf out (λ ws b d out₀. WalkAs (repeated types ws b d (s .left) (s .changes .values)) s x old end out₀ final)
+            (Statement.repeat node (h .e) (h .b))
         own d g same out₀ laid =
             let is : c ≡ d = accepted-of (sym (h .counts) ∙ g) in
             subst (λ (f : Count). WalkAs (repeated types (mentions (Statement.repeat node (h .e) (h .b))) (h .b) f (s .left) (s .changes .values)) s x old end out₀ final) is
@@ -193,7 +199,8 @@ module _ {bytes : List ℕ} {base : ℕ} {lists : List ℕ} {node : ℕ} {new : 
           lastly = subst (λ (n : ℕ). LastAt bytes lists node old n (turnAt r old end (a .turn .old) (a .turn .new))) (sym e) lastly;
         }
 
-        closes : (w : Walked) (x : Reached) (two final out₀ : List ℤ) → two ≡ set one (s .at) new → out ≡ countLaid vs out₀ (s .at) c → Came (whole w) r x old end two final
+        closes : (w : Walked) (x : Reached) (two final out₀ : List ℤ) → two ≡ set one (s .at) new → out ≡ countLaid vs out₀ (s .at) c
+            → Came (whole w) r x old end two final
             → Came (whole (shut (joined a w))) s x old end out₀ final
         unfolding both stepsOf
         closes w x two final out₀ sets laid d =
@@ -209,7 +216,8 @@ module _ {bytes : List ℕ} {base : ℕ} {lists : List ℕ} {node : ℕ} {new : 
             = omega (arith, d .ends, came .ends, at-turns, width h, length-append (a .words) (w .words), repeat-long (c .count .change) (c .head .snap .new) (c .count .words) words) in
             let turns : final ≡ lay (set out (s .at) new) (u .at) words
             = d .lays
-            ∙ ap₂ {C = List ℤ} (λ (l : List ℤ) (i : ℕ). lay l i (w .words)) (sets ∙ ap (λ (l : List ℤ). set l (s .at) new) (came .lays) ∙ set-lay out (s .at) (u .at) new (a .words) (omega (arith, step .at))) (came .ends)
+            ∙ ap₂ {C = List ℤ} (λ (l : List ℤ) (i : ℕ). lay l i (w .words))
+            (sets ∙ ap (λ (l : List ℤ). set l (s .at) new) (came .lays) ∙ set-lay out (s .at) (u .at) new (a .words) (omega (arith, step .at))) (came .ends)
             ∙ sym (lay-append (set out (s .at) new) (u .at) (a .words) (w .words)) in
             record {
               sound = d .sound;

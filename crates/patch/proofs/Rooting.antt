@@ -145,11 +145,13 @@ module _ {bytes : List ℕ} {old given : List ℤ} (s : Startable bytes old give
 
     -- ---- the root's visit
 
-    module _ (v left node end : ℕ) (iv : v ≡ variables bytes) (il : left ≡ natAbs (limitOf old)) (in′ : node ≡ nodes bytes - 1) (ie : end ≡ natAbs (lengthOf old)) where
+    module _ (v left node end : ℕ) (iv : v ≡ variables bytes) (il : left ≡ natAbs (limitOf old)) (in′ : node ≡ nodes bytes - 1)
+        (ie : end ≡ natAbs (lengthOf old)) where
       root-here : partAt bytes node ≡ some (statement (p .root))
       root-here = ap (partAt bytes) in′ ∙ root-at bytes p checked
 
-      pub root-visitable : (lists : List ℕ) → Lists bytes lists → length old < 1_152_921_504_606_846_976 → Visitable bytes (16 + v) lists node old end (startAt v left changes)
+      pub root-visitable : (lists : List ℕ) → Lists bytes lists → length old < 1_152_921_504_606_846_976
+          → Visitable bytes (16 + v) lists node old end (startAt v left changes)
       unfolding nodesAt headerLength
       root-visitable lists listed small =
           let low : left ≤ 1_000_000 = omega (arith, il, in-limits (limitOf old) (whole .limited) .2) in
@@ -179,7 +181,8 @@ module _ {bytes : List ℕ} {old given : List ℤ} (s : Startable bytes old give
           }
 
       -- the visit's words and limit are the header's
-      visit-is : visit (p .root) (walk (typesOf bytes) (p .root)) true (natAbs (limitOf old)) changes (part old (3 + 2 * variables bytes) (natAbs (lengthOf old))) ≡ rootVisit ready changes
+      visit-is : visit (p .root) (walk (typesOf bytes) (p .root)) true (natAbs (limitOf old)) changes
+          (part old (3 + 2 * variables bytes) (natAbs (lengthOf old))) ≡ rootVisit ready changes
       unfolding part
       visit-is =
           let root : part old (3 + 2 * variables bytes) (natAbs (lengthOf old)) ≡ ready .header .root
@@ -203,9 +206,12 @@ module _ {bytes : List ℕ} {old given : List ℤ} (s : Startable bytes old give
   pub goes-on : finishPatch bytes old given ≡ ending given ready
   goes-on = finish-by bytes old given ∙ ap (λ (m : Paper.Outcome Ready). m >>= ending given) (s .passed)
 
-module _ {bytes : List ℕ} {old given : List ℤ} (changes : Store) (h : Startable bytes old given) (is : changes .values ≡ padded given) (r : Reached) (out one : List ℤ)
-    (to : VisitAs (rootVisit (h .ready) (changes .values)) (startOf bytes old (changes .values)) r old (natAbs (lengthOf old)) out one) (same : length one ≡ length out) where
-  pub root-refused : (q : Refusal) → r .outcome ≡ Refused q → (a : Answer) (after : List ℤ) → Answers (length one) (refused (reasonOf q)) a after → PatchAnswers bytes old given (length out) a after
+module _ {bytes : List ℕ} {old given : List ℤ} (changes : Store) (h : Startable bytes old given) (is : changes .values ≡ padded given) (r : Reached)
+    (out one : List ℤ)
+    (to : VisitAs (rootVisit (h .ready) (changes .values)) (startOf bytes old (changes .values)) r old (natAbs (lengthOf old)) out one)
+    (same : length one ≡ length out) where
+  pub root-refused : (q : Refusal) → r .outcome ≡ Refused q → (a : Answer) (after : List ℤ) → Answers (length one) (refused (reasonOf q)) a after
+      → PatchAnswers bytes old given (length out) a after
   root-refused q f a after w =
       subst (λ (o : Paper.Outcome Finished). Answers (length out) (o >>= within (length out)) a after)
       (sym (goes-on h ∙ ap (λ (ws : List ℤ). rootVisit (h .ready) ws >>= ended given (h .ready .program .types) (h .ready .header)) (sym is)))
@@ -223,7 +229,8 @@ module _ {bytes : List ℕ} {old given : List ℤ} (changes : Store) (h : Starta
     pub got : (v : Visited) × ((rootVisit (h .ready) (changes .values) ≡ accepted v) × Came v (startOf bytes old (changes .values)) r old (natAbs (lengthOf old)) out one)
     got = along (rootVisit (h .ready) (changes .values)) refl to
       where
-        along : (m : Paper.Outcome Visited) → rootVisit (h .ready) (changes .values) ≡ m → VisitAs m (startOf bytes old (changes .values)) r old (natAbs (lengthOf old)) out one
+        along : (m : Paper.Outcome Visited) → rootVisit (h .ready) (changes .values) ≡ m
+            → VisitAs m (startOf bytes old (changes .values)) r old (natAbs (lengthOf old)) out one
             → (v : Visited) × ((rootVisit (h .ready) (changes .values) ≡ accepted v) × Came v (startOf bytes old (changes .values)) r old (natAbs (lengthOf old)) out one)
         along (accepted v) e g = (v, (e, g))
         along (refused x) e g = absurd (accepted-refused (sym f ∙ g))

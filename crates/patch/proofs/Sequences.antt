@@ -57,7 +57,8 @@ unfolding paid
 paid-rest node own e zero changes = vacant
 paid-rest node own e (suc left) changes = holds-bind (own left changes (e .parts)) _ (holds-any (own left changes (e .parts))) λ w t. value refl
 
-chosen-rest : (b : Bool) (node : ℕ) (own : Walk) (e : Entry) (fuel : ℕ) (changes : List ℤ) → Holds (λ v. v .rest ≡ e .behind) (choose b skipped (paid node own) e fuel changes)
+chosen-rest : (b : Bool) (node : ℕ) (own : Walk) (e : Entry) (fuel : ℕ) (changes : List ℤ)
+    → Holds (λ v. v .rest ≡ e .behind) (choose b skipped (paid node own) e fuel changes)
 chosen-rest true node own e fuel changes = skipped-rest e fuel changes
 chosen-rest false node own e fuel changes = paid-rest node own e fuel changes
 
@@ -70,12 +71,14 @@ pub visit-last : (t : Statement) (own : Walk) (fuel : ℕ) (changes ws : List �
 visit-last t own fuel changes ws v e = holds-at e (visit-all t own fuel changes ws)
 
 -- what a visit of a last part comes to, with nothing behind it
-pub with-rest : (P : Visited → Type 0) (m : Paper.Outcome Visited) (r : Reached) → Ends P m r → ((v : Visited) → m ≡ accepted v → v .rest ≡ []) → Ends (λ v. P v × (v .rest ≡ [])) m r
+pub with-rest : (P : Visited → Type 0) (m : Paper.Outcome Visited) (r : Reached) → Ends P m r → ((v : Visited) → m ≡ accepted v → v .rest ≡ [])
+    → Ends (λ v. P v × (v .rest ≡ [])) m r
 with-rest P (accepted v) r h f = (h, f v refl)
 with-rest P (refused q) r h f = h
 
 -- two walks one behind the other are the whole of their entry where nothing is left
-pub came-whole : {a b : Visited} {s u r : Reached} {old : List ℤ} {end : ℕ} {out one two : List ℤ} → Came a s u old end out one → Came b u r old end one two → b .rest ≡ []
+pub came-whole : {a b : Visited} {s u r : Reached} {old : List ℤ} {end : ℕ} {out one two : List ℤ} → Came a s u old end out one → Came b u r old end one two
+    → b .rest ≡ []
     → Came (whole (record { changes = b .changes; counts = both (a .counts) (b .counts); words = a .words ++ b .words })) s r old end out two
 came-whole {s} {r} {old} {end} {out} {two} c d none =
     let both = came-then c d in record {
@@ -112,7 +115,8 @@ module _ {bytes : List ℕ} {base : ℕ} {lists : List ℕ} {node : ℕ} {old : 
   joined a b = record { changes = b .changes; counts = both (a .counts) (b .counts); words = a .words ++ b .words }
 
   -- what is shown of the sequence is shown of each tree of the node
-  each : (r : Reached) (out after : List ℤ) → WalkAs (one-visit >>= λ a. two-visit a >>= λ b. accepted (joined a b)) s r old end out after → WalksTo bytes node old end s r out after
+  each : (r : Reached) (out after : List ℤ) → WalkAs (one-visit >>= λ a. two-visit a >>= λ b. accepted (joined a b)) s r old end out after
+      → WalksTo bytes node old end s r out after
   unfolding walk
   each r out after w = for-tree (h .known) (λ t. WalkAs (walk types t (s .left) (s .changes .values) (part old (s .from) end)) s r old end out after)
       (subst (λ (t : Statement). WalkAs (walk types t (s .left) (s .changes .values) (part old (s .from) end)) s r old end out after) (sym (its .is)) w)
@@ -143,7 +147,8 @@ module _ {bytes : List ℕ} {base : ℕ} {lists : List ℕ} {node : ℕ} {old : 
       second-visitable j e = subst (λ (j : ℕ). Visitable bytes base lists j old end u) (sym e)
           (record { known = child (h .known) (nodeAt bytes node .b) (its .t) (its .second .1) (small-both .1); sound = went .is .sound })
 
-      pub sequence-answer : (j : ℕ) → j ≡ nodeAt bytes node .b → (r : Reached) (two : List ℤ) → VisitsTo bytes j true old end u r one two → WalksTo bytes node old end s r out two
+      pub sequence-answer : (j : ℕ) → j ≡ nodeAt bytes node .b → (r : Reached) (two : List ℤ) → VisitsTo bytes j true old end u r one two
+          → WalksTo bytes node old end s r out two
       sequence-answer j e r two g =
           let a = went .value in
           let c = went .is in
@@ -157,6 +162,7 @@ module _ {bytes : List ℕ} {base : ℕ} {lists : List ℕ} {node : ℕ} {old : 
         where
           behind : (a : Visited) → Came a s u old end out one → (r : Reached) (two : List ℤ) → VisitAs (two-visit a) u r old end one two
               → WalkAs (two-visit a >>= λ b. accepted (joined a b)) s r old end out two
-          behind a c r two second = ends-map (λ v. (Came v u r old end one two) × (v .rest ≡ [])) (λ w. Came (whole w) s r old end out two) (two-visit a) (joined a) r
+          behind a c r two second = ends-map (λ v. (Came v u r old end one two) × (v .rest ≡ [])) (λ w. Came (whole w) s r old end out two) (two-visit a)
+              (joined a) r
               (with-rest (λ v. Came v u r old end one two) (two-visit a) r second (visit-last (its .t) (walk types (its .t)) (s .left - stepsOf (a .counts)) (a .changes) (a .rest)))
               λ v d. came-whole c (d .0) (d .1)

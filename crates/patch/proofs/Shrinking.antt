@@ -47,7 +47,8 @@ module _ {bytes lists : List ℕ} {node last : ℕ} {old : List ℤ} {end : ℕ}
       → ((out was new : List ℤ) → LastAt bytes lists node old last (turnAt s old end was new) → WalkAs (m >>= λ t. accepted (closed new t)) s r old end out out)
       → ShrinksTo bytes lists node last old end s r
   unfolding shrunk
-  shrunk-by m is r f out was new l = subst (λ (o : Paper.Outcome Snapshot). WalkAs (o >>= λ t. accepted (closed new t)) s r old end out out) (sym is) (f out was new l)
+  shrunk-by m is r f out was new l = subst (λ (o : Paper.Outcome Snapshot). WalkAs (o >>= λ t. accepted (closed new t)) s r old end out out) (sym is)
+      (f out was new l)
 
   module _ {w : ℕ} (wide : w ≡ length vs) where
     long : length (part old (s .from) end) ≡ end - s .from
@@ -119,7 +120,8 @@ module _ {bytes lists : List ℕ} {node last : ℕ} {old : List ℤ} {end : ℕ}
             unfolding lay noSteps allFresh
             shrunk-answer r fresh = shrunk-by (accepted (tail-at .snap)) (tailed ∙ tail-at .comes) r came
               where
-                came : (out was new : List ℤ) → LastAt bytes lists node old last (turnAt s old end was new) → Came (whole (closed new (tail-at .snap))) s r old end out out
+                came : (out was new : List ℤ) → LastAt bytes lists node old last (turnAt s old end was new)
+                    → Came (whole (closed new (tail-at .snap))) s r old end out out
                 came out was new l =
                     let begun = from-last l is in
                     let left : s .left + 0 ≡ s .left = omega arith in

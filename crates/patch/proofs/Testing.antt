@@ -108,11 +108,14 @@ module _ (bytes : List ℕ) (old changes : List ℤ) where
   unfolding finishPatch tests
   finish-by = along (check bytes)
     where
-      over : (p : Program) (h : Header) (l : Bool) → (need l changeWrong >>= λ u. ending changes (record { program = p; header = h })) ≡ (decided p h l >>= ending changes)
+      over : (p : Program) (h : Header) (l : Bool)
+          → (need l changeWrong >>= λ u. ending changes (record { program = p; header = h })) ≡ (decided p h l >>= ending changes)
       over p h true = refl
       over p h false = refl
 
-      through-header : (p : Program) (m : Paper.Outcome Header) → (m >>= λ h. need (legal (p .types) (h .inputs) changes) changeWrong >>= λ u. ending changes (record { program = p; header = h })) ≡ ((m >>= judged changes (p .types) p) >>= ending changes)
+      through-header : (p : Program) (m : Paper.Outcome Header)
+          → (m >>= λ h. need (legal (p .types) (h .inputs) changes) changeWrong >>= λ u. ending changes (record { program = p; header = h }))
+          ≡ ((m >>= judged changes (p .types) p) >>= ending changes)
       through-header p (accepted h) = over p h (legal (p .types) (h .inputs) changes)
       through-header p (refused q) = refl
 
@@ -120,14 +123,16 @@ module _ (bytes : List ℕ) (old changes : List ℤ) where
       along (accepted p) = through-header p (header (p .types) old)
       along (refused q) = refl
 
-  pub patch-answer : (a : Answer) (out after : List ℤ) → PatchAnswers bytes old changes (length out) a after → length after ≡ length out → IsPatch bytes old changes (answerOf a) after
+  pub patch-answer : (a : Answer) (out after : List ℤ) → PatchAnswers bytes old changes (length out) a after → length after ≡ length out
+      → IsPatch bytes old changes (answerOf a) after
   unfolding callPatch
   patch-answer a out after w same = record {
     answers = w .0 ∙ ap (λ (n : ℕ). answered n (finishPatch bytes old changes >>= within n) .answer) (sym same);
     leaves = w .1 ∙ ap (λ (n : ℕ). answered n (finishPatch bytes old changes >>= within n) .buffer) (sym same);
   }
 
-  pub patch-refused : {r : Outcome} {q : Refusal} → r ≡ Refused q → Tested bytes old changes r → (a : Answer) (out after : List ℤ) → Answers (length out) (refused (reasonOf q)) a after → length after ≡ length out
+  pub patch-refused : {r : Outcome} {q : Refusal} → r ≡ Refused q → Tested bytes old changes r → (a : Answer) (out after : List ℤ)
+      → Answers (length out) (refused (reasonOf q)) a after → length after ≡ length out
       → IsPatch bytes old changes (answerOf a) after
   unfolding Paper.numberOf
   patch-refused {r} {q} e h a out after w same =
@@ -135,4 +140,5 @@ module _ (bytes : List ℕ) (old changes : List ℤ) where
     where
       handed : (m : Paper.Outcome Ready) → numberOf r ≡ Paper.numberOf m → Answers (length out) ((m >>= ending changes) >>= within (length out)) a after
       handed (accepted p) f = absurd (refused-some q e f)
-      handed (refused x) f = subst (λ (y : Paper.Refusal). Answers (length out) (refused y) a after) (number-injective (reasonOf q) x (sym (ap numberOf e) ∙ f)) w
+      handed (refused x) f = subst (λ (y : Paper.Refusal). Answers (length out) (refused y) a after)
+          (number-injective (reasonOf q) x (sym (ap numberOf e) ∙ f)) w

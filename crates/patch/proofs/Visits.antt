@@ -46,7 +46,8 @@ record MetHere (m : Paper.Outcome Entry) (stop steps : ℕ) (old : List ℤ) (fr
   parts : e .parts ≡ part old (from + 3) stop
   behind : e .behind ≡ part old stop end
 
-met-here : (m : Paper.Outcome Entry) (r : Met) (old : List ℤ) (from end stop steps : ℕ) → MetAs m r old from end → r ≡ Is stop steps → MetHere m stop steps old from end
+met-here : (m : Paper.Outcome Entry) (r : Met) (old : List ℤ) (from end stop steps : ℕ) → MetAs m r old from end → r ≡ Is stop steps
+    → MetHere m stop steps old from end
 met-here (accepted e) r old from end stop steps h is =
     let same = is-of (sym (h .is) ∙ is) in
     let opens : from + 3 ≤ stop = omega (arith, h .opens, same .0) in
@@ -65,7 +66,8 @@ met-here (refused q) r old from end stop steps h is = absurd (is-broken (sym is 
 
 -- ---- a visit
 
-module _ {bytes : List ℕ} {base : ℕ} {lists : List ℕ} {node : ℕ} {old : List ℤ} {end : ℕ} {s : Reached} (last : Bool) (h : Visitable bytes base lists node old end s) where
+module _ {bytes : List ℕ} {base : ℕ} {lists : List ℕ} {node : ℕ} {old : List ℤ} {end : ℕ} {s : Reached} (last : Bool)
+    (h : Visitable bytes base lists node old end s) where
   abbrev k : Node bytes base lists node
   k = h .known
 
@@ -83,8 +85,10 @@ module _ {bytes : List ℕ} {base : ℕ} {lists : List ℕ} {node : ℕ} {old : 
       (node-is k) (sym (list-is k))
 
   module _ (met : Met) (m : MetAs (meet node last before) met old (s .from) end) where
-    pub visit-broken : met ≡ Broken → (r : Reached) → r .outcome ≡ Refused (refusalFor broken) → (out after : List ℤ) → VisitsTo bytes node last old end s r out after
-    visit-broken b r stops out after = for-tree k (λ t. VisitAs (visit t (walk (typesOf bytes) t) last (s .left) (s .changes .values) before) s r old end out after)
+    pub visit-broken : met ≡ Broken → (r : Reached) → r .outcome ≡ Refused (refusalFor broken) → (out after : List ℤ)
+        → VisitsTo bytes node last old end s r out after
+    visit-broken b r stops out after = for-tree k
+        (λ t. VisitAs (visit t (walk (typesOf bytes) t) last (s .left) (s .changes .values) before) s r old end out after)
         (subst (λ (o : Paper.Outcome Visited). VisitAs o s r old end out after) (sym (visit-is ∙ ap (λ (o : Paper.Outcome Entry). o >>= λ e. choose (unchanged (listAt lists node) (s .changes .values)) skipped (paid node own) e (s .left) (s .changes .values)) (met-broken (meet node last before) met old (s .from) end m b))) stops)
 
     module _ {stop steps : ℕ} (is : met ≡ Is stop steps) where
@@ -99,8 +103,10 @@ module _ {bytes : List ℕ} {base : ℕ} {lists : List ℕ} {node : ℕ} {old : 
 
       -- what is answered where the test of the skip rule comes out so
       visit-by : (b : Bool) → b ≡ unchanged (listAt lists node) (s .changes .values) → (r : Reached) (out after : List ℤ)
-          → VisitAs (choose b skipped (paid node own) (here .e) (s .left) (s .changes .values)) s r old end out after → VisitsTo bytes node last old end s r out after
-      visit-by b same r out after w = for-tree k (λ t. VisitAs (visit t (walk (typesOf bytes) t) last (s .left) (s .changes .values) before) s r old end out after)
+          → VisitAs (choose b skipped (paid node own) (here .e) (s .left) (s .changes .values)) s r old end out after
+          → VisitsTo bytes node last old end s r out after
+      visit-by b same r out after w = for-tree k
+          (λ t. VisitAs (visit t (walk (typesOf bytes) t) last (s .left) (s .changes .values) before) s r old end out after)
           (subst (λ (o : Paper.Outcome Visited). VisitAs o s r old end out after)
           (sym (visit-is ∙ ap₂ {C = Paper.Outcome Visited}
           (λ (o : Paper.Outcome Entry) (c : Bool). o >>= λ e. choose c skipped (paid node own) e (s .left) (s .changes .values)) (here .comes) (sym same))) w)

@@ -40,4 +40,5 @@ HeadAs (accepted h) r out at out′ = (r ≡ true) × (out′ ≡ lay out (at + 
 HeadAs (refused q) r out at out′ = (r ≡ false) × (q ≡ broken)
 
 abbrev pub HeadTo : List ℕ → List ℕ → ℕ → ℕ → List ℤ → ℕ → ℕ → List ℤ → Bool → List ℤ → ℕ → List ℤ → Type 0
-HeadTo bytes lists node kind old from end changes r out at out′ = HeadAs (headOf (typesOf bytes) (tyOf kind) (listAt lists node) changes (part old from end)) r out at out′
+HeadTo bytes lists node kind old from end changes r out at out′ = HeadAs
+    (headOf (typesOf bytes) (tyOf kind) (listAt lists node) changes (part old from end)) r out at out′

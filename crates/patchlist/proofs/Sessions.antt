@@ -59,7 +59,8 @@ module _ (s : List ℕ) where
   pub opened : opens s ≡ true → (8 ≤ length s) × (u16 s 6 ≤ 64) × (8 + u16 s 2 ≤ length s)
   unfolding opens
   opened o =
-      let first : (eqb (u16 s 0) 8 && (eqb (u16 s 4) (8 + u16 s 2) && (leb (u16 s 6) 64 && leb (8 + u16 s 2) (length s)))) ≡ true = and-right (leb 8 (length s)) _ o in
+      let first : (eqb (u16 s 0) 8 && (eqb (u16 s 4) (8 + u16 s 2) && (leb (u16 s 6) 64 && leb (8 + u16 s 2) (length s)))) ≡ true
+      = and-right (leb 8 (length s)) _ o in
       let last : (leb (u16 s 6) 64 && leb (8 + u16 s 2) (length s)) ≡ true = and-right (eqb (u16 s 4) (8 + u16 s 2)) _ (and-right (eqb (u16 s 0) 8) _ first) in
       (leb-true _ _ (and-left (leb 8 (length s)) _ o), leb-true _ _ (and-left (leb (u16 s 6) 64) _ last), leb-true _ _ (and-right (leb (u16 s 6) 64) _ last))
 
@@ -117,7 +118,8 @@ module _ (t : List ℕ) (v : ℕ) (lists first : List ℤ) where
   unfolding handedOn
   next-handed i n old w e f =
       let next : suc i ≡ i + 1 = omega arith in
-      f ∙ ap (λ (m : ℕ). handed t old (take m (drop (i * v) lists))) w ∙ ap (λ (l : List ℤ). handed t l (take v (drop (i * v) lists))) e ∙ ap (handedOn t v lists first) next
+      f ∙ ap (λ (m : ℕ). handed t old (take m (drop (i * v) lists))) w ∙ ap (λ (l : List ℤ). handed t l (take v (drop (i * v) lists))) e
+      ∙ ap (handedOn t v lists first) next
 
 -- ---- the last record of a session
 
@@ -139,7 +141,8 @@ unfolding wordsOf
 words-are bytes words zero h d = refl
 words-are bytes words (suc n) h d =
     let before : Decoded bytes n words = λ k l. d k (omega (arith, l)) in
-    take-suc words n (pos 0) (omega (arith, h)) ∙ ap₂ {C = List ℤ} (λ (xs : List ℤ) (w : ℤ). xs ++ (w ∷ [])) (words-are bytes words n (omega (arith, h)) before) (d n (omega arith))
+    take-suc words n (pos 0) (omega (arith, h))
+    ∙ ap₂ {C = List ℤ} (λ (xs : List ℤ) (w : ℤ). xs ++ (w ∷ [])) (words-are bytes words n (omega (arith, h)) before) (d n (omega arith))
 
 module _ (t : List ℕ) (v k : ℕ) (words : List ℤ) (n : ℕ) (limit : ℤ) (a : Answer) (first : List ℤ) (width : n ≡ v) (limit-is : limit ≡ at words 0)
     (is : IsRun t (take n (drop 1 words)) limit (answerOf a) first) (long : length first ≡ 2048) where
@@ -154,7 +157,8 @@ module _ (t : List ℕ) (v k : ℕ) (words : List ℤ) (n : ℕ) (limit : ℤ) (
   run-buffer : first ≡ callRun t (take v (drop 1 words)) (at words 0) 2048 .buffer
   run-buffer = is .leaves ∙ ap (λ (c : Called). c .buffer) same-call
 
-  pub calls-accepted : {after : List ℤ} (lists : List ℤ) → a .outcome ≡ Accepted → lists ≡ drop (1 + v) words → after ≡ handedOn t v lists first k → after ≡ callsEnd t v k words
+  pub calls-accepted : {after : List ℤ} (lists : List ℤ) → a .outcome ≡ Accepted → lists ≡ drop (1 + v) words → after ≡ handedOn t v lists first k
+      → after ≡ callsEnd t v k words
   unfolding callsEnd
   calls-accepted lists e same f =
       f ∙ ap (λ (l : List ℤ). handedOn t v l first k) same ∙ ap (λ (b : List ℤ). handedOn t v (drop (1 + v) words) b k) run-buffer
@@ -167,7 +171,8 @@ module _ (t : List ℕ) (v k : ℕ) (words : List ℤ) (n : ℕ) (limit : ℤ) (
 module _ (t : List ℕ) (v k : ℕ) (behind : List ℕ) (last : List ℤ) where
   pub words-wrong : (count : ℕ) → count ≡ 1 + v + k * v → (length behind ≡ 8 * count → ⊥) → last ≡ wordsEnd t v k behind last
   unfolding wordsEnd
-  words-wrong count c e = passed-over (eqb (length behind) (8 * (1 + v + k * v))) _ last (ne-eqb (length behind) (8 * (1 + v + k * v)) (λ q. e (q ∙ ap (8 *_) (sym c))))
+  words-wrong count c e = passed-over (eqb (length behind) (8 * (1 + v + k * v))) _ last
+      (ne-eqb (length behind) (8 * (1 + v + k * v)) (λ q. e (q ∙ ap (8 *_) (sym c))))
 
   pub words-right : (count : ℕ) → count ≡ 1 + v + k * v → length behind ≡ 8 * count
       → {after words : List ℤ} → words ≡ wordsOf behind count → after ≡ callsEnd t v k words → after ≡ wordsEnd t v k behind last

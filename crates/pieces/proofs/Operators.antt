@@ -45,15 +45,18 @@ decided : (t : Ty) (b : Bool) (z was : ℤ) (n : ℕ) (words rest out : List ℤ
 decided t true z was n words rest out at after e f g = (e ∙ ap (Is (minus t z was)) f, g)
 decided t false z was n words rest out at after e f g = e
 
-settled : (o : Operator) (was : ℤ) (u v : Rules.Shifted) (n : ℕ) (out : List ℤ) (at : ℕ) (after : List ℤ) {r : Shifted} → r ≡ settledAs o (u .change) (v .change) was n
-    → n ≡ 2 + length (u .words) + length (v .words) → after ≡ lay out at (u .change ∷ v .change ∷ (u .words ++ v .words)) → ShiftedAs (settleOf o was u v) r out at after
+settled : (o : Operator) (was : ℤ) (u v : Rules.Shifted) (n : ℕ) (out : List ℤ) (at : ℕ) (after : List ℤ) {r : Shifted}
+    → r ≡ settledAs o (u .change) (v .change) was n
+    → n ≡ 2 + length (u .words) + length (v .words) → after ≡ lay out at (u .change ∷ v .change ∷ (u .words ++ v .words))
+    → ShiftedAs (settleOf o was u v) r out at after
 unfolding settleOf compute
 settled o was u v n out at after e f g =
     let long : n ≡ length (u .change ∷ v .change ∷ (u .words ++ v .words)) = omega (arith, f, length-append (u .words) (v .words)) in
     decided (gives o) (inType (gives o) (apply o (u .change) (v .change))) (apply o (u .change) (v .change)) was n _ _ out at after e long g
 
 -- broken operands are the answer
-module _ {bytes : List ℕ} {base node : ℕ} {changes old : List ℤ} {from end at : ℕ} (h : Shiftable bytes base node changes old from end at) (operator-here : IsOperator bytes node) where
+module _ {bytes : List ℕ} {base node : ℕ} {changes old : List ℤ} {from end at : ℕ} (h : Shiftable bytes base node changes old from end at)
+    (operator-here : IsOperator bytes node) where
   pub here-parts : Operands bytes node (h .tree)
   here-parts = operands (evaluable h) operator-here
 
@@ -76,7 +79,8 @@ pub record Operating (bytes : List ℕ) (base node : ℕ) (changes old : List �
   pub operator-here : IsOperator bytes node
   pub recalls : Recalls (nodeAt bytes node .kind) old from end (Are x y was)
 
-module _ {bytes : List ℕ} {base node : ℕ} {changes old : List ℤ} {from end at : ℕ} {x y was : ℤ} (h : Operating bytes base node changes old from end at x y was) where
+module _ {bytes : List ℕ} {base node : ℕ} {changes old : List ℤ} {from end at : ℕ} {x y was : ℤ}
+    (h : Operating bytes base node changes old from end at x y was) where
   open Operating h using (shiftable, operator-here, recalls)
   open Shiftable shiftable using (program, checked, based, type, tree, here, near, inside, place)
 
@@ -180,7 +184,8 @@ module _ {bytes : List ℕ} {base node : ℕ} {changes old : List ℤ} {from end
             (rw (got₁ .comes) (handed-up (operandOf r y changes (part old (from + 2 + m) end)) _ q one out (at + 2 + m) at two after right-answer e))
 
         pub right-got : {b : ℤ} {n : ℕ} → answer ≡ Is b n → Right m b n one two
-        right-got {b} {n} e = got r old (from + 2 + m) end (right-shiftable .inside) b n one (at + 2 + m) two (operandOf r y changes (part old (from + 2 + m) end))
+        right-got {b} {n} e = got r old (from + 2 + m) end (right-shiftable .inside) b n one (at + 2 + m) two
+            (operandOf r y changes (part old (from + 2 + m) end))
             (operand-sized r y changes (part old (from + 2 + m) end)) right-answer e
 
     -- ---- the result
@@ -200,6 +205,7 @@ module _ {bytes : List ℕ} {base node : ℕ} {changes old : List ℤ} {from end
       operator-answer {k} {answer} {after} kind s =
           let f = settles-plain s in
           let laid : after ≡ lay out at (a ∷ b ∷ (got₁ .words ++ got₂ .words))
-          = whole-record out one two after at (at + 2 + m) a b (got₁ .words) (got₂ .words) (got₁ .lays) (ap (λ (i : ℕ). at + 2 + i) (got₁ .long)) (got₂ .lays) (f .lays) in
+          = whole-record out one two after at (at + 2 + m) a b (got₁ .words) (got₂ .words) (got₁ .lays) (ap (λ (i : ℕ). at + 2 + i) (got₁ .long))
+          (got₂ .lays) (f .lays) in
           let long : 2 + m + n ≡ 2 + length (got₁ .words) + length (got₂ .words) = omega (arith, got₁ .long, got₂ .long) in
           for-tree answer out after (rw (got₁ .comes, got₂ .comes) (settled o was _ _ (2 + m + n) out at after (f .ends o (sym (kind ∙ number))) long laid))

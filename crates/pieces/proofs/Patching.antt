@@ -32,7 +32,8 @@ module _ {bytes lists : List ℕ} {node : ℕ} {old : List ℤ} {from end : ℕ}
   read-by (refused q) e h C next = absurd (true≢false (h .0))
 
   pub fits-standing : FitsAs (readSnapshot (typesOf bytes) (listAt lists node) (part old from end)) true → Standing bytes lists node old from
-  fits-standing h = read-by (readSnapshot (typesOf bytes) (listAt lists node) (part old from end)) refl h (Standing bytes lists node old from) λ s e r. r .standing
+  fits-standing h = read-by (readSnapshot (typesOf bytes) (listAt lists node) (part old from end)) refl h
+      (Standing bytes lists node old from) λ s e r. r .standing
 
   module _ (changes out : List ℤ) (place : ℕ) (after : List ℤ) where
     pub patched-not : FitsAs (readSnapshot (typesOf bytes) (listAt lists node) (part old from end)) false

@@ -162,7 +162,8 @@ pub are-broken : {x y z : ℤ} → _≡_ {A = Answer} (Are x y z) Broken → ⊥
 are-broken p = let z : _≡_ {A = ℕ} 0 1 = cc in omega arith
 
 module _ (o : Operator) (old : List ℤ) (from end : ℕ) (inside : Inside old from end) where
-  remembered-of : (k : Recall) → Recalled o (part old from end) k → recall o (part old from end) ≡ accepted k → Remembered o old from end (k .left) (k .right) (k .result)
+  remembered-of : (k : Recall) → Recalled o (part old from end) k → recall o (part old from end) ≡ accepted k
+      → Remembered o old from end (k .left) (k .right) (k .result)
   remembered-of k r e =
       let room : from + 2 ≤ end = omega (arith, ap length (r .first), part-long old from end (inside .ends), inside .ordered) in
       let behind : k .rest ≡ part old (from + 2) end = ap (drop 2) (sym (r .first)) ∙ part-drop old from end 2 room in
@@ -186,7 +187,8 @@ module _ (o : Operator) (old : List ℤ) (from end : ℕ) (inside : Inside old f
   remembered = by-outcome (recall o (part old from end)) refl
 
 -- what was recalled, handed on as words
-pub recalls-back : {k kind : ℕ} {old : List ℤ} {from end : ℕ} {answer : Answer} (x y was : ℤ) → Inside old from end → k ≡ kind → Recalls k old from end answer → answer ≡ Are x y was
+pub recalls-back : {k kind : ℕ} {old : List ℤ} {from end : ℕ} {answer : Answer} (x y was : ℤ) → Inside old from end → k ≡ kind
+    → Recalls k old from end answer → answer ≡ Are x y was
     → Recalls kind old from end (Are (kept x) (kept y) (kept was))
 recalls-back {k} {kind} {old} {from} {end} x y was inside e h is o f =
     let are : RecalledAs (recall o (part old from end)) (Are x y was) = subst (RecalledAs (recall o (part old from end))) is (h o (f ∙ sym e)) in

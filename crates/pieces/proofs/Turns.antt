@@ -86,7 +86,8 @@ abbrev pub newsOf : List ℕ → List ℕ → ℕ → List ℤ → ℕ → List 
 newsOf bytes lists node old from changes = plusEach (typesOf bytes) (listAt lists node) (olds old from (listAt lists node)) changes
 
 abbrev pub settledOf : List ℕ → List ℕ → ℕ → List ℤ → ℕ → List ℤ → List ℤ
-settledOf bytes lists node old from values = minusAll (typesOf bytes) (listAt lists node) (snapshot (listAt lists node) values) (olds old from (listAt lists node))
+settledOf bytes lists node old from values = minusAll (typesOf bytes) (listAt lists node) (snapshot (listAt lists node) values)
+    (olds old from (listAt lists node))
 
 -- there are as many of them as variables
 module _ {bytes lists : List ℕ} {node : ℕ} {old : List ℤ} {from : ℕ} (standing : Standing bytes lists node old from) where
@@ -142,7 +143,8 @@ module _ {bytes lists : List ℕ} {node : ℕ} {old : List ℤ} {from i v : ℕ}
 
     -- the new value, where it is one of its type
     module _ {r : Computed} (e : r ≡ movedAs (tyOf (getD bytes (16 + v) 0)) (kept (at old (from + i))) (kept (at zs v))) where
-      moved-as : r ≡ movedAs (typeOf (typesOf bytes) (getD (listAt lists node) i 0)) (at (olds old from (listAt lists node)) i) (at zs (getD (listAt lists node) i 0))
+      moved-as : r ≡ movedAs (typeOf (typesOf bytes) (getD (listAt lists node) i 0)) (at (olds old from (listAt lists node)) i)
+          (at zs (getD (listAt lists node) i 0))
       moved-as = rw (its .type, back, back-old) at e
 
       pub moved-is : {z : ℤ} → r ≡ Is z

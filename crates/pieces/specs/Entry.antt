@@ -90,7 +90,8 @@ pub record Copied (old : List ℤ) (from stop at : ℕ) : Type 0 where
   pub place : at + (stop - from) ≤ farthest
 
 abbrev pub SkipsTo : List ℤ → ℕ → ℕ → Reached → Reached → List ℤ → List ℤ → Type 0
-SkipsTo old stop steps s r out after = (end : ℕ) (e : Entry) → Inside old stop end → e .steps ≡ steps → e .words ≡ part old (s .from) stop → e .behind ≡ part old stop end
+SkipsTo old stop steps s r out after = (end : ℕ) (e : Entry) → Inside old stop end → e .steps ≡ steps → e .words ≡ part old
+    (s .from) stop → e .behind ≡ part old stop end
     → VisitAs (skipped e (s .left) (s .changes .values)) s r old end out after
 
 -- ---- a walk moved on

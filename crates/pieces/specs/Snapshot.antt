@@ -85,7 +85,8 @@ MovesTo bytes lists node old from changes r out place after =
 
 -- it is read and takes its changes
 abbrev pub PatchesTo : List ℕ → List ℕ → ℕ → List ℤ → ℕ → ℕ → List ℤ → Bool → List ℤ → ℕ → List ℤ → Type 0
-PatchesTo bytes lists node old from end changes r out place after = PatchedAs (patched (typesOf bytes) (listAt lists node) changes (part old from end)) r out place after
+PatchesTo bytes lists node old from end changes r out place after = PatchedAs
+    (patched (typesOf bytes) (listAt lists node) changes (part old from end)) r out place after
 
 -- the store that it makes with its changes: zero but for the node's variables
 abbrev pub startedFrom : List ℕ → List ℕ → ℕ → List ℤ → ℕ → List ℤ → List ℤ

@@ -98,7 +98,8 @@ accepted-leaves-a-record q room a =
 abbrev AllFresh : Counts → ℕ → List ℤ → Type 0
 AllFresh counts steps changes = (counts ≡ allFresh steps) × (changes ≡ zeros mostVariables)
 
-finish-fresh : (bytes : List ℕ) (inputs : List ℤ) (limit : ℤ) → Holds (λ f. AllFresh (f .counts) (stepsOf (f .counts)) (f .changes)) (finishRun bytes inputs limit)
+finish-fresh : (bytes : List ℕ) (inputs : List ℤ) (limit : ℤ)
+    → Holds (λ f. AllFresh (f .counts) (stepsOf (f .counts)) (f .changes)) (finishRun bytes inputs limit)
 unfolding finishRun stepsOf allFresh
 finish-fresh bytes inputs limit =
     holds-bind (check bytes) _ (holds-any (check bytes)) λ p a.
@@ -109,7 +110,8 @@ finish-fresh bytes inputs limit =
     value (ap allFresh sum, refl)
 
 fresh-left : (room : ℕ) (o : Outcome Finished) → Holds (λ f. AllFresh (f .counts) (stepsOf (f .counts)) (f .changes)) o → Ends room o
-    → AllFresh (answered room (o >>= within room) .answer .counts) (answered room (o >>= within room) .answer .steps) (answered room (o >>= within room) .answer .changes)
+    → AllFresh (answered room (o >>= within room) .answer .counts) (answered room (o >>= within room) .answer .steps)
+    (answered room (o >>= within room) .answer .changes)
 unfolding answered noSteps allFresh
 fresh-left room o h (stopped r e whole) = rw whole (refl, refl)
 fresh-left room o h (short f e less whole) = rw whole (refl, refl)

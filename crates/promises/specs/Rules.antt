@@ -132,7 +132,8 @@ module _ (bytes : List ℕ) (p : Program) (checked : check bytes ≡ accepted p)
   }
 
   -- and so a run that is refused with 8 or 9 has no derivation
-  pub refused-run-is-underivable : (room : ℕ) → (callRun bytes inputs limit room .answer .number ≡ 8) ⊎ (callRun bytes inputs limit room .answer .number ≡ 9) → ⊥
+  pub refused-run-is-underivable : (room : ℕ) → (callRun bytes inputs limit room .answer .number ≡ 8) ⊎ (callRun bytes inputs limit room .answer .number ≡ 9)
+      → ⊥
   refused-run-is-underivable room h = apart (callRun bytes inputs limit room .answer .number) room-decides h
     where
       room-decides : (callRun bytes inputs limit room .answer .number ≡ 0) ⊎ (callRun bytes inputs limit room .answer .number ≡ 10)

@@ -34,7 +34,8 @@ module _ (words behind : List ℤ) where
   -- what lies inside the record is read there
   part-front : (k n : ℕ) → k + n ≤ length words → take n (drop k (words ++ behind)) ≡ take n (drop k words)
   part-front k n le =
-      ap (take n) (drop-append-le k words behind (omega arith)) ∙ take-append-le n (drop k words) behind (subst (λ m. n ≤ m) (sym (length-drop k words)) (omega arith))
+      ap (take n) (drop-append-le k words behind (omega arith))
+      ∙ take-append-le n (drop k words) behind (subst (λ m. n ≤ m) (sym (length-drop k words)) (omega arith))
 
   word-front : (i : ℕ) → i < length words → at (words ++ behind) i ≡ at words i
   word-front i less = List·getD-append words behind (pos 0) i less
@@ -191,7 +192,8 @@ module _ (bytes : List ℕ) (inputs : List ℤ) (limit limit′ : ℤ) (is′ : 
       holds-bind (run (p .root) (natAbs limit) (padded inputs)) _ (holds-if (run (p .root) (natAbs limit) (padded inputs)) (λ d e. e)) λ d ran.
       let enough : d .steps ≤ natAbs limit′
       = le-trans (steps-within (p .root) (natAbs limit) (padded inputs) d ran) (limit-more limit limit′ is is′ more) in
-      let again : run (p .root) (natAbs limit′) (padded inputs) ≡ accepted d = costs-of (p .root) (natAbs limit) (padded inputs) d ran .enough (natAbs limit′) enough in
+      let again : run (p .root) (natAbs limit′) (padded inputs) ≡ accepted d
+      = costs-of (p .root) (natAbs limit) (padded inputs) d ran .enough (natAbs limit′) enough in
       let word : limit′ ≡ pos (natAbs limit′) = in-limits limit′ is′ .0 in
       value (record { comes = rw (checked, fitted, is′, again, ← word) refl; long = omega arith })
 

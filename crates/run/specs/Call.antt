@@ -62,7 +62,8 @@ pub record Completable (v : ℕ) (inputs : List ℤ) (limit : ℕ) (ran : Ran) (
   pub room : ran .at ≤ length out
 
 abbrev pub CompletesTo : ℕ → List ℤ → ℕ → Ran → List ℤ → Answer → List ℤ → Type 0
-CompletesTo v inputs limit ran now r after = (d : Done) (out : List ℤ) → EndedAs d ran out limit (3 + 2 * v) now → Answers (length now) (accepted (finished v inputs limit d)) r after
+CompletesTo v inputs limit ran now r after = (d : Done) (out : List ℤ) → EndedAs d ran out limit (3 + 2 * v) now → Answers (length now)
+    (accepted (finished v inputs limit d)) r after
 
 -- the whole run, in so much room
 abbrev pub RunAnswers : List ℕ → List ℤ → ℤ → ℕ → Answer → List ℤ → Type 0

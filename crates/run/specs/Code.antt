@@ -72,7 +72,8 @@ pub record Evaluable (bytes : List ℕ) (base node : ℕ) (values : List ℤ) (a
 
 -- the answer for the node's expression
 abbrev pub EvaluatesTo : List ℕ → ℕ → List ℤ → Evaluated → List ℤ → ℕ → List ℤ → Type 0
-EvaluatesTo bytes node values r out at after = (t : Ty) (e : Expression) → partAt bytes node ≡ some (expression t e) → EvaluatedAs (evaluate e values) r out at after
+EvaluatesTo bytes node values r out at after = (t : Ty) (e : Expression) → partAt bytes node ≡ some (expression t e) → EvaluatedAs
+    (evaluate e values) r out at after
 
 -- the node is an operator
 abbrev pub IsOperator : List ℕ → ℕ → Type 0

@@ -55,7 +55,8 @@ unfolding skipped stepsOf allReused
 skipped-within e fuel changes =
     holds-need (leb (e .steps) fuel) fuelSpent _ λ h. holds-here _ (omega (arith, leb-true (e .steps) fuel h))
 
-paid-within : (node : ℕ) (inside : Walk) → WalksWithin inside → (e : Entry) (fuel : ℕ) (changes : List ℤ) → Holds (λ v. stepsOf (v .counts) ≤ fuel) (paid node inside e fuel changes)
+paid-within : (node : ℕ) (inside : Walk) → WalksWithin inside → (e : Entry) (fuel : ℕ) (changes : List ℤ)
+    → Holds (λ v. stepsOf (v .counts) ≤ fuel) (paid node inside e fuel changes)
 unfolding paid stepsOf oneWalked
 paid-within node inside h e zero changes = vacant
 paid-within node inside h e (suc left) changes =
@@ -139,7 +140,8 @@ module _ (types : List Ty) where
       holds-bind (movedAll types vs (b .values) changes) _ (holds-any (movedAll types vs (b .values) changes)) λ before any″.
       holds-bind (readSnapshot types vs (b .rest)) _ (holds-any (readSnapshot types vs (b .rest))) λ a any‴.
       holds-bind (shift e changes (a .rest)) _ (holds-any (shift e changes (a .rest))) λ x any⁗.
-      fork-within (eqZ (x .change) (pos 0)) (choose (holds (old .word)) (visit s (walk types s)) (visit t (walk types t))) (choose (holds (old .word)) (run t) (run s))
+      fork-within (eqZ (x .change) (pos 0)) (choose (holds (old .word)) (visit s (walk types s)) (visit t (walk types t)))
+      (choose (holds (old .word)) (run t) (run s))
       (chosen-visits (holds (old .word)) (visit s (walk types s)) (visit t (walk types t)) (visit-within s (walk types s) (walk-within s)) (visit-within t (walk types t) (walk-within t)))
       (chosen-runs (holds (old .word)) (run t) (run s) (run-within t) (run-within s)) _
   walk-within (repeat n e s) left changes ws =

@@ -19,14 +19,17 @@ use Rattle.simazokwa.specs.Words.{headWords, answerWords, Tellable, Told
 filled : (out xs ys zs : List ℤ) (n m : ℕ) → length xs ≡ n → length ys ≡ m → length out ≡ n + m + length zs
     → lay (lay (lay out 0 xs) n ys) (n + m) zs ≡ xs ++ (ys ++ zs)
 filled out xs ys zs n m hx hy long =
-    let one : lay out 0 (xs ++ (ys ++ zs)) ≡ lay (lay out 0 xs) n (ys ++ zs) = lay-append out 0 xs (ys ++ zs) ∙ ap (λ (k : ℕ). lay (lay out 0 xs) k (ys ++ zs)) (omega (arith, hx)) in
-    let two : lay (lay out 0 xs) n (ys ++ zs) ≡ lay (lay (lay out 0 xs) n ys) (n + m) zs = lay-append (lay out 0 xs) n ys zs ∙ ap (λ (k : ℕ). lay (lay (lay out 0 xs) n ys) (n + k) zs) hy in
+    let one : lay out 0 (xs ++ (ys ++ zs)) ≡ lay (lay out 0 xs) n (ys ++ zs)
+    = lay-append out 0 xs (ys ++ zs) ∙ ap (λ (k : ℕ). lay (lay out 0 xs) k (ys ++ zs)) (omega (arith, hx)) in
+    let two : lay (lay out 0 xs) n (ys ++ zs) ≡ lay (lay (lay out 0 xs) n ys) (n + m) zs
+    = lay-append (lay out 0 xs) n ys zs ∙ ap (λ (k : ℕ). lay (lay (lay out 0 xs) n ys) (n + k) zs) hy in
     sym two ∙ sym one ∙ lay-to-end out 0 (xs ++ (ys ++ zs)) (omega (arith, length-append xs (ys ++ zs), length-append ys zs, long, hx, hy))
 
 -- the head in the machine's words, before it is known that each number is one
 abbrev pub headBits : ℕ → Answer → List ℤ
 headBits number a =
-    toZ w64 number ∷ toZ w64 0 ∷ toZ w64 (a .steps) ∷ toZ w64 (a .counts .walked) ∷ toZ w64 (a .counts .reused) ∷ toZ w64 (a .counts .fresh) ∷ toZ w64 (a .length) ∷ toZ w64 0 ∷ []
+    toZ w64 number ∷ toZ w64 0 ∷ toZ w64 (a .steps) ∷ toZ w64 (a .counts .walked) ∷ toZ w64 (a .counts .reused) ∷ toZ w64 (a .counts .fresh) ∷ toZ w64
+    (a .length) ∷ toZ w64 0 ∷ []
 
 module _ {a : Answer} (small : Tellable a) {number : ℕ} (is : number ≡ a .number) (low : number < 4_294_967_296) where
   head-is : headBits number a ≡ headWords a

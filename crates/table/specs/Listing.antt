@@ -66,7 +66,8 @@ module _ (vars : ℕ → List ℕ) (t : List ℕ) (at count : ℕ) (few : count 
 
   pub no-child : fs ≡ flaggedBy vars (drop count (take count (fields t at))) fs
   unfolding flaggedBy
-  no-child = ap (λ (cs : List ℕ). flaggedBy vars cs fs) (sym (ap (λ (k : ℕ). drop k (take count (fields t at))) (sym long-fields) ∙ drop-length (take count (fields t at))))
+  no-child = ap (λ (cs : List ℕ). flaggedBy vars cs fs)
+      (sym (ap (λ (k : ℕ). drop k (take count (fields t at))) (sym long-fields) ∙ drop-length (take count (fields t at))))
 
   pub next-child : (j : ℕ) → j < count
       → flagged (flaggedBy vars (drop (suc j) (take count (fields t at))) fs) (vars (u16 t (at + 2 + 2 * j)))
@@ -94,7 +95,8 @@ module _ (bytes : List ℕ) (table : AcceptedTable bytes) where
   right-next : (lists : List ℕ) (n : ℕ) → n < 512 → length lists ≡ 16896 → Upto bytes lists n
       → Upto bytes (laid lists n (varsAt bytes n)) (suc n)
   right-next lists n inside long upto m h =
-      let short : length (varsAt bytes n) ≤ 32 = omega (arith, rises-short (length (typesOf bytes)) (varsAt bytes n) (rises-node bytes (table .0) (table .1) n), types-few) in
+      let short : length (varsAt bytes n) ≤ 32
+      = omega (arith, rises-short (length (typesOf bytes)) (varsAt bytes n) (rises-node bytes (table .0) (table .1) n), types-few) in
       let room : 33 * n + 1 + length (varsAt bytes n) ≤ length lists = omega arith in
       let h′ : m ≤ n = omega arith in
       by-place room short (eq-or-lt-of-le h′)
@@ -109,7 +111,8 @@ module _ (bytes : List ℕ) (table : AcceptedTable bytes) where
             list = same-list lists (laid lists n (varsAt bytes n)) n alike m below (r .few) ∙ r .list;
           }
       by-place room short (inl e) =
-          subst (Right bytes (laid lists n (varsAt bytes n))) (sym e) (record { few = rw (laid-count lists n (varsAt bytes n) room) short; list = laid-list lists n (varsAt bytes n) room })
+          subst (Right bytes (laid lists n (varsAt bytes n))) (sym e)
+          (record { few = rw (laid-count lists n (varsAt bytes n) room) short; list = laid-list lists n (varsAt bytes n) room })
 
   -- a node's list holds its variables, each a variable of the table
   module _ (lists : List ℕ) (n : ℕ) (inside : n < 512) (long : length lists ≡ 16896) (right : Right bytes lists n) where

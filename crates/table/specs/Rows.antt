@@ -59,7 +59,8 @@ module _ (before : List ℕ) (n : ℕ) (flags : List Bool) (bound : ℕ) (enough
 
     pub laying-pass : v < bound → getD flags v false ≡ false → Laying before n flags bound lists count (v + 1)
     laying-pass h off =
-        let e : rising 0 (take (v + 1) flags) ≡ rising 0 (take v flags) = more h ∙ ap (λ (f : Bool). rising 0 (take v flags) ++ alone f v) off ∙ append-nil (rising 0 (take v flags)) in
+        let e : rising 0 (take (v + 1) flags) ≡ rising 0 (take v flags)
+        = more h ∙ ap (λ (f : Bool). rising 0 (take v flags) ++ alone f v) off ∙ append-nil (rising 0 (take v flags)) in
         record {
           within = omega arith;
           few = omega (arith, so-far .few);

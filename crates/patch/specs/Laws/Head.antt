@@ -166,7 +166,8 @@ module _ (bytes lists : List ℕ) (node : ℕ) (named : Named bytes lists node) 
       let h = head-at Ty.number (one .value) (one .comes) in
       let place = from + 1 + length vs in
       let two = through (operandOf e (one .value .word) changes (one .value .snap .rest)) _ c (one .goes) in
-      let x : operandOf e (one .value .word) changes (part old place end) ≡ accepted (two .value) = ap (operandOf e (one .value .word) changes) (sym (h .snap .rest)) ∙ two .comes in
+      let x : operandOf e (one .value .word) changes (part old place end) ≡ accepted (two .value)
+      = ap (operandOf e (one .value .word) changes) (sym (h .snap .rest)) ∙ two .comes in
       let sized : Sized e (part old place end) (two .value) = holds-at x (operand-sized e (one .value .word) changes (part old place end)) in
       subst (CountAt e) (accepted-of (two .goes)) (record {
         below = h .below;

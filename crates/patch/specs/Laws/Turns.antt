@@ -58,7 +58,8 @@ module _ (types : List Ty) (body : ℕ → List ℤ → List ℤ → Paper.Outco
       bind-assoc (movedAll types vs (o .values) (b .changes)) _ _
       ∙ bind-same (movedAll types vs (o .values) (b .changes)) _ _ (λ new.
       bind-same (loop types body fresh vs k k′ (record { left = t .left - stepsOf (b .counts); changes = b .changes; old = o .values; new = new; rest = o .rest })) _ _ (λ w.
-      ap (λ (ws : List ℤ). accepted (record { changes = w .changes; counts = both (b .counts) (w .counts); words = ws })) (append-assoc (b .words) new (w .words)))))))
+      ap (λ (ws : List ℤ). accepted (record { changes = w .changes; counts = both (b .counts) (w .counts); words = ws }))
+      (append-assoc (b .words) new (w .words)))))))
 
   pub loop-turns : (n k k′ : ℕ) (t : Turn) → loop types body fresh vs (n + k) (n + k′) t
       ≡ (turnsOf types body vs n t >>= λ a. loop types body fresh vs k k′ (a .turn) >>= λ w. accepted (joined a w))
@@ -116,7 +117,8 @@ walk-if types n e a b left changes ws =
 -- ---- a repeat: its head, and then the loop
 
 pub walk-repeat : (types : List Ty) (n : ℕ) (e : Expression) (b : Statement) (left : ℕ) (changes ws : List ℤ)
-    → walk types (repeat n e b) left changes ws ≡ (countOf types (mentions (repeat n e b)) e changes ws >>= λ c. repeated types (mentions (repeat n e b)) b c left changes)
+    → walk types (repeat n e b) left changes ws
+    ≡ (countOf types (mentions (repeat n e b)) e changes ws >>= λ c. repeated types (mentions (repeat n e b)) b c left changes)
 unfolding walk countOf headOf patched operandOf repeated
 walk-repeat types n e b left changes ws =
     let vs = mentions (repeat n e b) in

@@ -40,7 +40,8 @@ cut-past (suc n) (w ∷ ws) past = rw (cut-past n ws (omega arith))
 cut-part : (old : List ℤ) (from mid end : ℕ) → from ≤ mid → mid ≤ end → end ≤ length old
     → cut (mid - from) (part old from end) ≡ accepted (record { front = part old from mid; behind = part old mid end })
 cut-part old from mid end low high inside =
-    ap₂ {C = Outcome Cut} cut (sym (part-long old from mid (omega arith))) (part-split old from mid end low high) ∙ cut-back (part old from mid) (part old mid end)
+    ap₂ {C = Outcome Cut} cut (sym (part-long old from mid (omega arith))) (part-split old from mid end low high)
+    ∙ cut-back (part old from mid) (part old mid end)
 
 -- a last part leaves nothing behind where it stops at the end
 ends-part : (last : Bool) (old : List ℤ) (stop end : ℕ) → stop ≤ end → end ≤ length old → ends last (part old stop end) ≡ endsAt last stop end
@@ -116,7 +117,8 @@ three old from end opens inside =
     ∙ ap (λ (ws : List ℤ). at old from ∷ ws)
     (part-next old (from + 1) end (omega arith) inside
     ∙ ap (λ (p : ℕ). at old (from + 1) ∷ part old p end) two
-    ∙ ap (λ (ws : List ℤ). at old (from + 1) ∷ ws) (part-next old (from + 2) end (omega arith) inside ∙ ap (λ (p : ℕ). at old (from + 2) ∷ part old p end) more))
+    ∙ ap (λ (ws : List ℤ). at old (from + 1) ∷ ws)
+    (part-next old (from + 2) end (omega arith) inside ∙ ap (λ (p : ℕ). at old (from + 2) ∷ part old p end) more))
 
 -- the entry met is refused, and the code says so
 abbrev pub IsBroken : ℕ → Bool → List ℤ → ℕ → ℕ → Type 0

@@ -57,7 +57,8 @@ module _ (types : List Ty) (changes : List ℤ) where
   long-is short e = e
   long-is (more fit m) e = ap suc (long-is m (cc))
 
-pub moved-plus : (types : List Ty) (vs : List ℕ) (words changes news : List ℤ) → movedAll types vs words changes ≡ accepted news → news ≡ plusEach types vs words changes
+pub moved-plus : (types : List Ty) (vs : List ℕ) (words changes news : List ℤ) → movedAll types vs words changes ≡ accepted news
+    → news ≡ plusEach types vs words changes
 moved-plus types vs words changes news e = plus-is types changes (moved-is types changes vs words news e)
 
 pub moved-long : (types : List Ty) (vs : List ℕ) (words changes news : List ℤ) → length words ≡ length vs → movedAll types vs words changes ≡ accepted news

@@ -46,13 +46,15 @@ pub refused-of : {p q : Refusal} → _≡_ {A = Shifted} (Refused p) (Refused q)
 refused-of e = cc
 
 -- a refusal is handed up unchanged
-pub handed-up : (m : Outcome Rules.Shifted) (next : Rules.Shifted → Outcome Rules.Shifted) {r : Shifted} (q : Refusal) (out out′ : List ℤ) (at at′ : ℕ) (after after′ : List ℤ)
+pub handed-up : (m : Outcome Rules.Shifted) (next : Rules.Shifted → Outcome Rules.Shifted) {r : Shifted} (q : Refusal) (out out′ : List ℤ) (at at′ : ℕ)
+    (after after′ : List ℤ)
     → ShiftedAs m r out at after → r ≡ Refused q → ShiftedAs (m >>= next) r out′ at′ after′
 handed-up (accepted x) next q out out′ at at′ after after′ h e = absurd (is-refused (sym (h .0) ∙ e))
 handed-up (refused p) next q out out′ at at′ after after′ h e = h
 
 -- a change, or an operand, that was answered with the length of its record: where the words behind begin, and what was laid down
-pub record Got (e : Expression) (m : Outcome Rules.Shifted) (old : List ℤ) (from end : ℕ) (x : ℤ) (n : ℕ) (out : List ℤ) (at : ℕ) (after : List ℤ) : Type 0 where
+pub record Got (e : Expression) (m : Outcome Rules.Shifted) (old : List ℤ) (from end : ℕ) (x : ℤ) (n : ℕ) (out : List ℤ) (at : ℕ)
+    (after : List ℤ) : Type 0 where
   pub words : List ℤ
   pub comes : m ≡ accepted (record { change = x; words = words; rest = part old (from + n) end })
   pub long : n ≡ length words
@@ -76,7 +78,8 @@ module _ (e : Expression) (old : List ℤ) (from end : ℕ) (inside : Inside old
         lays = laid;
       }
 
-  pub got : (m : Outcome Rules.Shifted) → Holds (Sized e (part old from end)) m → {r : Shifted} → ShiftedAs m r out at after → r ≡ Is x n → Got e m old from end x n out at after
+  pub got : (m : Outcome Rules.Shifted) → Holds (Sized e (part old from end)) m → {r : Shifted} → ShiftedAs m r out at after → r ≡ Is x n
+      → Got e m old from end x n out at after
   got (accepted s) sized h q = got-of s (holds-of sized) (is-of (sym q ∙ h .0)) (h .1)
   got (refused p) sized h q = absurd (is-refused (sym q ∙ h))
 
@@ -121,7 +124,8 @@ module _ {bytes : List ℕ} {base node : ℕ} {changes old : List ℤ} {from end
   module _ (answer : Shifted) (out after : List ℤ) (told : ShiftsTo bytes node changes old from end answer out at after) where
     pub change-got : {x : ℤ} {n : ℕ} → answer ≡ Is x n → Change x n out after
     change-got {x} {n} =
-        got tree old from end inside x n out at after (shift tree changes (part old from end)) (shift-sized tree changes (part old from end)) (told type tree here)
+        got tree old from end inside x n out at after (shift tree changes (part old from end)) (shift-sized tree changes (part old from end))
+        (told type tree here)
 
     pub operand-refused : (was : ℤ) {q : Refusal} → answer ≡ Refused q → OperandTo bytes node was changes old from end answer out at after
     unfolding operandOf
@@ -158,7 +162,8 @@ module _ {bytes : List ℕ} {base node : ℕ} {changes old : List ℤ} {from end
 
   module _ (out : List ℤ) where
     -- a leaf's answer: this change, and nothing is laid down
-    leaf-shift : (d : Expression) (u : Ty) (x w : ℤ) → shift d changes (part old from end) ≡ accepted (record { change = x; words = []; rest = part old from end })
+    leaf-shift : (d : Expression) (u : Ty) (x w : ℤ)
+        → shift d changes (part old from end) ≡ accepted (record { change = x; words = []; rest = part old from end })
         → expression type tree ≡ expression u d → w ≡ x
         → (t : Ty) (e : Expression) → partAt bytes node ≡ some (expression t e) → ShiftedAs (shift e changes (part old from end)) (Is w 0) out at out
     unfolding lay

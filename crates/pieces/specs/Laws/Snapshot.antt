@@ -99,7 +99,8 @@ module _ (types : List Ty) (old : List ℤ) (end : ℕ) (ends : end ≤ length o
       → (inType (typeOf types v) (at old from) ≡ true) ⊎ (inType (typeOf types v) (at old from) ≡ false)
       → Holds (ReadFrom (v ∷ vs) from) (readSnapshot types (v ∷ vs) (at old from ∷ part old (from + 1) end))
   unfolding readSnapshot readIn read
-  read-word v vs from behind (inl fit) = rw fit (holds-bind (readSnapshot types vs (part old (from + 1) end)) _ behind λ s r. value (read-more v vs from fit s r))
+  read-word v vs from behind (inl fit) = rw fit
+      (holds-bind (readSnapshot types vs (part old (from + 1) end)) _ behind λ s r. value (read-more v vs from fit s r))
   read-word v vs from behind (inr unfit) = rw unfit vacant
 
   -- where a word is left
@@ -164,7 +165,8 @@ olds-long bytes lists node old from s =
 -- ---- the store that it makes
 
 -- the variables of a node's list have a place in the store
-list-known : (bytes lists : List ℕ) (node : ℕ) (q : Part) → ListOf bytes lists node q → length (typesOf bytes) ≤ 32 → Below (length (zeros mostVariables)) (listAt lists node)
+list-known : (bytes lists : List ℕ) (node : ℕ) (q : Part) → ListOf bytes lists node q → length (typesOf bytes) ≤ 32
+    → Below (length (zeros mostVariables)) (listAt lists node)
 unfolding mostVariables
 list-known bytes lists node q l few i h =
     let below : i < getD lists (33 * node) 0 = omega (arith, l .count, ap length (l .list)) in
@@ -172,7 +174,8 @@ list-known bytes lists node q l few i h =
     omega (arith, l .row .low i below, named, zeros-long)
 
 -- a node's list rises, so what is put of it is read back
-pub started-back : (bytes lists : List ℕ) → Lists bytes lists → (node : ℕ) (q : Part) → partAt bytes node ≡ some q → (news : List ℤ) → length news ≡ length (listAt lists node) → snapshot (listAt lists node) (put (listAt lists node) news (zeros mostVariables)) ≡ news
+pub started-back : (bytes lists : List ℕ) → Lists bytes lists → (node : ℕ) (q : Part) → partAt bytes node ≡ some q → (news : List ℤ)
+    → length news ≡ length (listAt lists node) → snapshot (listAt lists node) (put (listAt lists node) news (zeros mostVariables)) ≡ news
 started-back bytes lists every node q e news many =
     let l = every .each node q e in
     let climbs : Climbs 0 (listAt lists node) = subst (Climbs 0) (sym (l .list)) (vars-climb q) in
@@ -190,7 +193,8 @@ module _ (types : List Ty) (store : List ℤ) (good : Good types store) where
       put-near vs os (λ i h. fits (suc i) (omega arith)) _
       (set-each (λ w z. Near z) changes near v _ (minus-near (typeOf types v) (at store v) o (good v) (fits 0 (omega arith))))
 
-pub settled-near : (bytes lists : List ℕ) (node : ℕ) (old : List ℤ) (from : ℕ) → Standing bytes lists node old from → (store : List ℤ) → Good (typesOf bytes) store
+pub settled-near : (bytes lists : List ℕ) (node : ℕ) (old : List ℤ) (from : ℕ) → Standing bytes lists node old from → (store : List ℤ)
+    → Good (typesOf bytes) store
     → (changes : List ℤ) → AllNear changes
     → AllNear (put (listAt lists node) (minusAll (typesOf bytes) (listAt lists node) (snapshot (listAt lists node) store) (olds old from (listAt lists node))) changes)
 settled-near bytes lists node old from s store good changes near =

@@ -50,7 +50,8 @@ last-back : (types : List Ty) (vs : List ℕ) (front store : List ℤ) → Good 
 unfolding lastSnapshot
 last-back types vs front store good =
     let size : length (snapshot vs store) ≡ length vs = length-snapshot vs store in
-    let whole : length (front ++ snapshot vs store) ≡ length front + length vs = length-append front (snapshot vs store) ∙ ap (λ (n : ℕ). length front + n) size in
+    let whole : length (front ++ snapshot vs store) ≡ length front + length vs
+    = length-append front (snapshot vs store) ∙ ap (λ (n : ℕ). length front + n) size in
     let fits : leb (length vs) (length front + length vs) ≡ true = le-leb (length vs) (length front + length vs) (omega arith) in
     let behind : length front + length vs - length vs ≡ length front = omega arith in
     let here : drop (length front) (front ++ snapshot vs store) ≡ snapshot vs store = drop-append-seam front (snapshot vs store) in

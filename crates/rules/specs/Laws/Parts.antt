@@ -138,9 +138,12 @@ kind-number (suc (suc (suc (suc (suc (suc (suc (suc (suc (suc (suc (suc (suc (su
 kind-number (suc (suc (suc (suc (suc (suc (suc (suc (suc (suc (suc (suc (suc (suc (suc (suc zero)))))))))))))))) k e = rw (← (some-injective e))
 kind-number (suc (suc (suc (suc (suc (suc (suc (suc (suc (suc (suc (suc (suc (suc (suc (suc (suc zero))))))))))))))))) k e = rw (← (some-injective e))
 kind-number (suc (suc (suc (suc (suc (suc (suc (suc (suc (suc (suc (suc (suc (suc (suc (suc (suc (suc zero)))))))))))))))))) k e = rw (← (some-injective e))
-kind-number (suc (suc (suc (suc (suc (suc (suc (suc (suc (suc (suc (suc (suc (suc (suc (suc (suc (suc (suc zero))))))))))))))))))) k e = rw (← (some-injective e))
-kind-number (suc (suc (suc (suc (suc (suc (suc (suc (suc (suc (suc (suc (suc (suc (suc (suc (suc (suc (suc (suc zero)))))))))))))))))))) k e = rw (← (some-injective e))
-kind-number (suc (suc (suc (suc (suc (suc (suc (suc (suc (suc (suc (suc (suc (suc (suc (suc (suc (suc (suc (suc (suc n))))))))))))))))))))) k e = absurd (none-some e)
+kind-number (suc (suc (suc (suc (suc (suc (suc (suc (suc (suc (suc (suc (suc (suc (suc (suc (suc (suc (suc zero))))))))))))))))))) k e = rw
+    (← (some-injective e))
+kind-number (suc (suc (suc (suc (suc (suc (suc (suc (suc (suc (suc (suc (suc (suc (suc (suc (suc (suc (suc (suc zero)))))))))))))))))))) k e = rw
+    (← (some-injective e))
+kind-number (suc (suc (suc (suc (suc (suc (suc (suc (suc (suc (suc (suc (suc (suc (suc (suc (suc (suc (suc (suc (suc n))))))))))))))))))))) k e = absurd
+    (none-some e)
 
 -- ---- what a node of each kind is made of
 
@@ -176,11 +179,13 @@ module _ (types : List Ty) (before : List Part) (self : ℕ) (n : Node) where
   Built (operator o) p = (l : Expression) × (r : Expression) × (p ≡ expression (gives o) (Expression.operation self o l r))
       × Child (n .a) (expression Ty.number l) × Child (n .b) (expression Ty.number r)
   Built skip p = p ≡ statement (Statement.skip self)
-  Built assign p = (e : Expression) × (p ≡ statement (Statement.assign self (n .tag) e)) × Child (n .a) (expression (typeOf types (n .tag)) e) × (n .tag < length types)
+  Built assign p = (e : Expression) × (p ≡ statement (Statement.assign self (n .tag) e)) × Child (n .a) (expression (typeOf types (n .tag)) e) ×
+      (n .tag < length types)
   Built sequence p = (s : Statement) × (t : Statement) × (p ≡ statement (Statement.sequence self s t)) × Child (n .a) (statement s) × Child (n .b) (statement t)
   Built if p = (e : Expression) × (s : Statement) × (t : Statement) × (p ≡ statement (Statement.if self e s t))
       × Child (n .a) (expression Ty.truth e) × Child (n .b) (statement s) × Child (n .c) (statement t)
-  Built repeat p = (e : Expression) × (s : Statement) × (p ≡ statement (Statement.repeat self e s)) × Child (n .a) (expression Ty.number e) × Child (n .b) (statement s)
+  Built repeat p = (e : Expression) × (s : Statement) × (p ≡ statement (Statement.repeat self e s)) × Child (n .a) (expression Ty.number e) × Child (n .b)
+      (statement s)
 
   free : {Q : Part → Type 0} (m : Outcome (Unit {0})) (next : Unit {0} → Outcome Part) → Holds Q (next tt) → Holds Q (m >>= next)
   free (accepted u) next h = h
@@ -228,7 +233,8 @@ nodes-found : (n i : ℕ) (bytes : List ℕ) → i < n → getElem? (nodesFrom n
 unfolding nodesFrom
 nodes-found zero i bytes h = absurd (omega arith)
 nodes-found (suc n) zero bytes h = refl
-nodes-found (suc n) (suc i) bytes h = nodes-found n i (drop 8 bytes) (omega arith) ∙ ap (λ (bs : List ℕ). some (readNode bs)) (drop-drop (8 * i) 8 bytes ∙ ap (λ (k : ℕ). drop k bytes) eight)
+nodes-found (suc n) (suc i) bytes h = nodes-found n i (drop 8 bytes) (omega arith)
+    ∙ ap (λ (bs : List ℕ). some (readNode bs)) (drop-drop (8 * i) 8 bytes ∙ ap (λ (k : ℕ). drop k bytes) eight)
   where
     eight : 8 + 8 * i ≡ 8 * suc i
     eight = omega (arith, mul-suc 8 i)

@@ -61,12 +61,14 @@ pub data Ahead (s : Statement) : List ℤ → ℕ → List ℤ → ℕ → Type 
   done : {store : List ℤ} → Ahead s store 0 store 0
   first : {store store′ store″ : List ℤ} {k i j : ℕ} → Executes store s store′ i → Ahead s store′ k store″ j → Ahead s store (suc k) store″ (i + j)
 
-turns-front : {s : Statement} {store store′ store″ : List ℤ} {k i j : ℕ} → Executes store s store′ i → Turns s store′ k store″ j → Turns s store (suc k) store″ (i + j)
+turns-front : {s : Statement} {store store′ store″ : List ℤ} {k i j : ℕ} → Executes store s store′ i → Turns s store′ k store″ j
+    → Turns s store (suc k) store″ (i + j)
 turns-front {s} {store} {store″} {i} x none = subst (λ n. Turns s store 1 store″ n) (zero-add i ∙ sym (add-zero i)) (more none x)
 turns-front {s} {store} {store″} {i} x (more {k} {i = a} {j = b} t y) =
     subst (λ n. Turns s store (suc (suc k)) store″ n) (add-assoc i a b) (more (turns-front x t) y)
 
-ahead-end : {s : Statement} {store store′ store″ : List ℤ} {k i j : ℕ} → Ahead s store k store′ i → Executes store′ s store″ j → Ahead s store (suc k) store″ (i + j)
+ahead-end : {s : Statement} {store store′ store″ : List ℤ} {k i j : ℕ} → Ahead s store k store′ i → Executes store′ s store″ j
+    → Ahead s store (suc k) store″ (i + j)
 ahead-end {s} {store} {store″} {j} done y = subst (λ n. Ahead s store 1 store″ n) (add-zero j ∙ sym (zero-add j)) (first y done)
 ahead-end {s} {store} {store″} {j} (first {k} {i = a} {j = b} x t) y =
     subst (λ n. Ahead s store (suc (suc k)) store″ n) (sym (add-assoc a b j)) (first x (ahead-end t y))

@@ -130,7 +130,8 @@ module _ (bytes : List ℕ) (words : List ℤ) (made : Made bytes words) where
       outputs-fit : fit types (take (length types) (e .store)) ≡ true
       outputs-fit = good-fit types (e .store) (k .good) has-room′
 
-      reported : plusAll types outputs (padded (take (length types) (difference types (e .store) (end .store)))) ≡ take (length types) (padded (take (length types) (e .store)))
+      reported : plusAll types outputs (padded (take (length types) (difference types (e .store) (end .store))))
+          ≡ take (length types) (padded (take (length types) (e .store)))
       reported =
           plus-padded types outputs (difference types (e .store) (end .store))
           (subst (λ n. length types ≤ n) (sym (length-difference types (e .store) (end .store) long)) has-room′)

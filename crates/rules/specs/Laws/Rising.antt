@@ -87,7 +87,8 @@ insert-from zero k (true ∷ fs) h = rw (add-zero k, compare-same k)
 insert-from zero k (false ∷ fs) h = rw (add-zero k) (insert-first k (suc k) fs (omega arith))
 insert-from (suc v) k (true ∷ fs) h =
     let e : k + suc v ≡ suc k + v = omega arith in
-    rw (compare-more (k + suc v) k (omega arith)) (ap (λ (ws : List ℕ). k ∷ ws) (ap (λ (u : ℕ). insert u (rising (suc k) fs)) e ∙ insert-from v (suc k) fs (omega arith)))
+    rw (compare-more (k + suc v) k (omega arith))
+    (ap (λ (ws : List ℕ). k ∷ ws) (ap (λ (u : ℕ). insert u (rising (suc k) fs)) e ∙ insert-from v (suc k) fs (omega arith)))
 insert-from (suc v) k (false ∷ fs) h =
     let e : k + suc v ≡ suc k + v = omega arith in
     ap (λ (u : ℕ). insert u (rising (suc k) fs)) e ∙ insert-from v (suc k) fs (omega arith)
@@ -186,7 +187,8 @@ pub rising-first : (n : ℕ) (fs : List Bool) → n ≤ length fs → Below n (r
 rising-first n fs h low =
     let start : 0 + length (take n fs) ≡ n = zero-add (length (take n fs)) ∙ length-take-le n fs h in
     let split : rising 0 fs ≡ rising 0 (take n fs) ++ rising n (drop n fs) =
-    ap (rising 0) (sym (take-append-drop n fs)) ∙ rising-append 0 (take n fs) (drop n fs) ∙ ap (λ (u : ℕ). rising 0 (take n fs) ++ rising u (drop n fs)) start in
+    ap (rising 0) (sym (take-append-drop n fs)) ∙ rising-append 0 (take n fs) (drop n fs)
+    ∙ ap (λ (u : ℕ). rising 0 (take n fs) ++ rising u (drop n fs)) start in
     let rest = none-above n (rising 0 (take n fs)) (rising n (drop n fs)) (rw split at low) (rising-above n (drop n fs)) in
     sym (split ∙ ap (λ (ws : List ℕ). rising 0 (take n fs) ++ ws) rest ∙ append-nil (rising 0 (take n fs)))
 

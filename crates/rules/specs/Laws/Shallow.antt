@@ -84,11 +84,13 @@ module _ (bytes : List ℕ) (p : Program) (checked : check bytes ≡ accepted p)
         subst Small (sym (statement-of (b .2))) (child _ (b .0) (b .3) (omega arith), child _ (b .1) (b .4) (omega arith))
     small-built s here h if b =
         let d : suc (max (depthOf (b .0)) (max (depth (b .1)) (depth (b .2)))) ≤ 24 = subst (λ (t : Statement). depth t ≤ 24) (statement-of (b .3)) h in
-        let n : length (mentions (Statement.if i (b .0) (b .1) (b .2))) ≤ 32 = subst (λ (t : Statement). length (mentions t) ≤ 32) (statement-of (b .3)) (narrow i s here) in
+        let n : length (mentions (Statement.if i (b .0) (b .1) (b .2))) ≤ 32
+        = subst (λ (t : Statement). length (mentions t) ≤ 32) (statement-of (b .3)) (narrow i s here) in
         subst Small (sym (statement-of (b .3))) (few (b .0) (omega arith), n, child _ (b .1) (b .5) (omega arith), child _ (b .2) (b .6) (omega arith))
     small-built s here h repeat b =
         let d : suc (max (depthOf (b .0)) (depth (b .1))) ≤ 24 = subst (λ (t : Statement). depth t ≤ 24) (statement-of (b .2)) h in
-        let n : length (mentions (Statement.repeat i (b .0) (b .1))) ≤ 32 = subst (λ (t : Statement). length (mentions t) ≤ 32) (statement-of (b .2)) (narrow i s here) in
+        let n : length (mentions (Statement.repeat i (b .0) (b .1))) ≤ 32
+        = subst (λ (t : Statement). length (mentions t) ≤ 32) (statement-of (b .2)) (narrow i s here) in
         subst Small (sym (statement-of (b .2))) (few (b .0) (omega arith), n, child _ (b .1) (b .4) (omega arith))
 
   small-up : (n i : ℕ) (s : Statement) → i < n → partAt bytes i ≡ some (statement s) → depth s ≤ 24 → Small s
@@ -98,4 +100,5 @@ module _ (bytes : List ℕ) (p : Program) (checked : check bytes ≡ accepted p)
       small-built i (λ c r l found e. small-up n c r (omega arith) found e) s here d (st .kind) (st .built)
 
   pub root-small : Small (p .root)
-  root-small = small-up (suc (nodes bytes - 1)) (nodes bytes - 1) (p .root) (omega arith) (root-at bytes p checked) (holds-of (subst (Holds (λ q. depth (q .root) ≤ 24)) checked (check-shallow bytes)))
+  root-small = small-up (suc (nodes bytes - 1)) (nodes bytes - 1) (p .root) (omega arith) (root-at bytes p checked)
+      (holds-of (subst (Holds (λ q. depth (q .root) ≤ 24)) checked (check-shallow bytes)))

@@ -224,7 +224,8 @@ unfolding run
 run-only (Statement.skip n) fuel store = enter-only n fuel _ λ left. passes
 run-only (Statement.assign n v e) fuel store = enter-only n fuel _ λ left. only-bind (evaluate e store) _ (evaluate-only e store) λ x. passes
 run-only (Statement.sequence n s t) fuel store = enter-only n fuel _ λ left.
-    only-bind (run s left store) _ (run-only s left store) λ d. only-bind (run t (left - d .steps) (d .store)) _ (run-only t (left - d .steps) (d .store)) λ f. passes
+    only-bind (run s left store) _ (run-only s left store) λ d. only-bind (run t (left - d .steps) (d .store)) _
+    (run-only t (left - d .steps) (d .store)) λ f. passes
 run-only (Statement.if n e s t) fuel store = enter-only n fuel _ λ left.
     only-bind (evaluate e store) _ (evaluate-only e store) λ x.
     only-bind (choose (holds (x .value)) (run s) (run t) left store) _

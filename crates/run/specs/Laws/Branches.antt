@@ -58,7 +58,8 @@ if-laid out before after test branch z at second third fourth e f g =
 
 -- ---- the whole of an if
 
-pub if-long : (z : ℤ) (before after test branch : List ℤ) → length (ifWords z before after test branch) ≡ 1 + length before + length after + length test + length branch
+pub if-long : (z : ℤ) (before after test branch : List ℤ)
+    → length (ifWords z before after test branch) ≡ 1 + length before + length after + length test + length branch
 unfolding ifWords
 if-long z before after test branch =
     omega (arith, length-append before (after ++ (test ++ branch)), length-append after (test ++ branch), length-append test branch)
@@ -120,7 +121,8 @@ module _ {bytes : List ℕ} {base : ℕ} {lists : List ℕ} {node : ℕ} {values
           child-evaluable k test-here few near
 
       module _ (a : Evaluated) (one two : List ℤ) (answer : EvaluatesTo bytes child values a one third two) where
-        pub test-refused : {q : Refusal} → a ≡ Stopped q → (r : Ran) → r .outcome ≡ Refused q → (out final : List ℤ) → PartsTo bytes node values left r out at final
+        pub test-refused : {q : Refusal} → a ≡ Stopped q → (r : Ran) → r .outcome ≡ Refused q → (out final : List ℤ)
+            → PartsTo bytes node values left r out at final
         unfolding inside
         test-refused {q} e r f out final = for-parts k (own .is) left r out at final
             (evaluation-refused (evaluate (own .e) values) _ q r one out left third at two final (answer Ty.truth (own .e) test-here) e f)
@@ -137,8 +139,10 @@ module _ {bytes : List ℕ} {base : ℕ} {lists : List ℕ} {node : ℕ} {values
           record { known = k; kinded = h .kinded; near = near; place = place }
 
       -- the condition and the branch were handed on as words
-      pub branch-answer : mag z < 9_223_372_036_854_775_808 → (out three : List ℤ) → one ≡ lay out (at + 1) (snapshot (listAt lists node) values) → three ≡ set two at (toZ w64 (ofZ w64 z))
-          → (r : Ran) (final : List ℤ) → TakesTo bytes node (toZ w64 (ofZ w64 z)) values left r three second fourth final → PartsTo bytes node values left r out at final
+      pub branch-answer : mag z < 9_223_372_036_854_775_808 → (out three : List ℤ) → one ≡ lay out (at + 1) (snapshot (listAt lists node) values)
+          → three ≡ set two at (toZ w64 (ofZ w64 z))
+          → (r : Ran) (final : List ℤ) → TakesTo bytes node (toZ w64 (ofZ w64 z)) values left r three second fourth final
+          → PartsTo bytes node values left r out at final
       unfolding inside
       branch-answer fits out three b c r final took =
           let vs = mentions (Statement.if node (own .e) (own .s) (own .t)) in
@@ -146,7 +150,8 @@ module _ {bytes : List ℕ} {base : ℕ} {lists : List ℕ} {node : ℕ} {values
           let same : listAt lists node ≡ vs = if-variables k (h .kinded) in
           let value : toZ w64 (ofZ w64 z) ≡ x .value = word-back z fits ∙ got₁ .value in
           let words : three ≡ set (lay (lay out (at + 1) (snapshot vs values)) third (x .words)) at (x .value)
-          = c ∙ ap₂ {C = List ℤ} (λ (l : List ℤ) (w : ℤ). set l at w) (got₁ .lays ∙ ap (λ (l : List ℤ). lay l third (x .words)) (b ∙ ap (λ (ws : List ℕ). lay out (at + 1) (snapshot ws values)) same)) value in
+          = c ∙ ap₂ {C = List ℤ} (λ (l : List ℤ) (w : ℤ). set l at w)
+          (got₁ .lays ∙ ap (λ (l : List ℤ). lay l third (x .words)) (b ∙ ap (λ (ws : List ℕ). lay out (at + 1) (snapshot ws values)) same)) value in
           let run-of : TookAs vs (choose (holds (x .value)) (run (own .s)) (run (own .t)) left values) r (set (lay (lay out (at + 1) (snapshot vs values)) third (x .words)) at (x .value)) left second fourth final
           = subst (λ (l : List ℤ). TookAs vs (choose (holds (x .value)) (run (own .s)) (run (own .t)) left values) r l left second fourth final) words
           (subst (λ (w : ℤ). TookAs vs (choose (holds w) (run (own .s)) (run (own .t)) left values) r three left second fourth final) value

@@ -101,7 +101,8 @@ module _ {bytes : List ℕ} {inputs : List ℤ} {limit : ℤ} (h : Startable byt
     pub listed : Lists bytes lists
 
   -- the words from which it is made
-  pub begins : {w n most : ℕ} {values : List ℤ} {lists : List ℕ} → SFits w64 limit → w ≡ variables bytes → n ≡ nodes bytes → most ≡ natAbs (toZ w64 (ofZ w64 limit)) → values ≡ padded (take w inputs)
+  pub begins : {w n most : ℕ} {values : List ℤ} {lists : List ℕ} → SFits w64 limit → w ≡ variables bytes → n ≡ nodes bytes
+      → most ≡ natAbs (toZ w64 (ofZ w64 limit)) → values ≡ padded (take w inputs)
       → Lists bytes lists → Begun w (n - 1) most values lists
   begins {w} fits few nodes-are most-is padding listed =
       let counted : w ≡ v = few ∙ count-is in
@@ -129,7 +130,8 @@ module _ {bytes : List ℕ} {inputs : List ℤ} {limit : ℤ} (h : Startable byt
       tree = p .root;
       here = root-here;
       small = root-small bytes p (passed .checked);
-      fine = subst (Fine (typesOf bytes)) (sym stored) (subst (λ ts. Fine ts (padded inputs)) (through bytes p (passed .checked) .types) (padded-fine (p .types) inputs few (passed .fits)));
+      fine = subst (Fine (typesOf bytes)) (sym stored)
+          (subst (λ ts. Fine ts (padded inputs)) (through bytes p (passed .checked) .types) (padded-fine (p .types) inputs few (passed .fits)));
     }
 
     pub most-low : most ≤ 1_000_000
@@ -142,14 +144,17 @@ module _ {bytes : List ℕ} {inputs : List ℤ} {limit : ℤ} (h : Startable byt
 
     module _ (ran : Ran) (out one : List ℤ) (ran-to : RunsTo bytes root values most ran out (3 + 2 * w) one) (same : length one ≡ length out) where
       root-ran : RanAs (run (p .root) (natAbs limit) (padded inputs)) ran out most (3 + 2 * w) one
-      root-ran = subst (λ (o : Paper.Outcome Done). RanAs o ran out most (3 + 2 * w) one) (ap₂ {C = Paper.Outcome Done} (run (p .root)) limits stored) (ran-to (p .root) root-here)
+      root-ran = subst (λ (o : Paper.Outcome Done). RanAs o ran out most (3 + 2 * w) one) (ap₂ {C = Paper.Outcome Done} (run (p .root)) limits stored)
+          (ran-to (p .root) root-here)
 
-      pub root-refused : {q : Refusal} → ran .outcome ≡ Refused q → (a : Answer) (after : List ℤ) → Answers (length one) (refused (reasonOf q)) a after → RunAnswers bytes inputs limit (length out) a after
+      pub root-refused : {q : Refusal} → ran .outcome ≡ Refused q → (a : Answer) (after : List ℤ) → Answers (length one) (refused (reasonOf q)) a after
+          → RunAnswers bytes inputs limit (length out) a after
       root-refused {q} f a after w′ =
           subst (λ (o : Paper.Outcome Finished). Answers (length out) (o >>= within (length out)) a after) (sym run-is)
           (handed (run (p .root) (natAbs limit) (padded inputs)) root-ran)
         where
-          handed : (o : Paper.Outcome Done) → RanAs o ran out most (3 + 2 * w) one → Answers (length out) ((o >>= λ d. accepted (finished v inputs (natAbs limit) d)) >>= within (length out)) a after
+          handed : (o : Paper.Outcome Done) → RanAs o ran out most (3 + 2 * w) one
+              → Answers (length out) ((o >>= λ d. accepted (finished v inputs (natAbs limit) d)) >>= within (length out)) a after
           handed (accepted d) g = absurd (accepted-refused (sym (g .accepts) ∙ f))
           handed (refused r) g =
               let is-q : reasonOf q ≡ r = ap reasonOf (reason-of (sym f ∙ g)) ∙ reason-back r in
@@ -176,14 +181,18 @@ module _ {bytes : List ℕ} {inputs : List ℤ} {limit : ℤ} (h : Startable byt
         words-long : length (finished v inputs (natAbs limit) d .words) ≡ ran .at
         words-long = omega (arith, record-long (natAbs limit) (d .steps) inputs (take v (d .store)) (d .words), inputs-long, length-take-le v (d .store) (omega (arith, few, store-long)), got .ended .ends, counted)
 
-        ends-as : (b : Bool) → leb (length (finished v inputs (natAbs limit) d .words)) (length out) ≡ b → (finishRun bytes inputs limit >>= within (length out)) ≡ (need b roomShort >>= λ u. accepted (finished v inputs (natAbs limit) d))
+        ends-as : (b : Bool) → leb (length (finished v inputs (natAbs limit) d .words)) (length out) ≡ b
+            → (finishRun bytes inputs limit >>= within (length out)) ≡ (need b roomShort >>= λ u. accepted (finished v inputs (natAbs limit) d))
         unfolding within
-        ends-as b g = ap (λ (o : Paper.Outcome Finished). o >>= within (length out)) (run-is ∙ ap (λ (o : Paper.Outcome Done). o >>= λ x. accepted (finished v inputs (natAbs limit) x)) (got .comes))
+        ends-as b g = ap (λ (o : Paper.Outcome Finished). o >>= within (length out))
+            (run-is ∙ ap (λ (o : Paper.Outcome Done). o >>= λ x. accepted (finished v inputs (natAbs limit) x)) (got .comes))
             ∙ ap (λ (c : Bool). need c roomShort >>= λ u. accepted (finished v inputs (natAbs limit) d)) g
 
-        pub room-refused : length one < ran .at → (a : Answer) (after : List ℤ) → Answers (length one) (refused roomShort) a after → RunAnswers bytes inputs limit (length out) a after
+        pub room-refused : length one < ran .at → (a : Answer) (after : List ℤ) → Answers (length one) (refused roomShort) a after
+            → RunAnswers bytes inputs limit (length out) a after
         room-refused g a after w′ =
-            subst (λ (o : Paper.Outcome Finished). Answers (length out) o a after) (sym (ends-as false (lt-leb (length (finished v inputs (natAbs limit) d .words)) (length out) (omega (arith, words-long, same)))))
+            subst (λ (o : Paper.Outcome Finished). Answers (length out) o a after)
+            (sym (ends-as false (lt-leb (length (finished v inputs (natAbs limit) d .words)) (length out) (omega (arith, words-long, same)))))
             (subst (λ (n : ℕ). Answers n (refused roomShort) a after) same w′)
 
         pub root-completable : ran .at ≤ length one → Completable w inputs most ran one
@@ -195,9 +204,11 @@ module _ {bytes : List ℕ} {inputs : List ℤ} {limit : ℤ} (h : Startable byt
             let behind : 3 + 2 * w ≤ ran .at = omega (arith, got .ended .ends) in
             record { few = small; each = each; long = long; low = most-low; least = least; near = place; behind = behind; room = g }
 
-        pub root-answer : ran .at ≤ length one → (a : Answer) (after : List ℤ) → CompletesTo w inputs most ran one a after → RunAnswers bytes inputs limit (length out) a after
+        pub root-answer : ran .at ≤ length one → (a : Answer) (after : List ℤ) → CompletesTo w inputs most ran one a after
+            → RunAnswers bytes inputs limit (length out) a after
         root-answer g a after c =
-            subst (λ (o : Paper.Outcome Finished). Answers (length out) o a after) (sym (ends-as true (le-leb (length (finished v inputs (natAbs limit) d .words)) (length out) (omega (arith, words-long, same)))))
+            subst (λ (o : Paper.Outcome Finished). Answers (length out) o a after)
+            (sym (ends-as true (le-leb (length (finished v inputs (natAbs limit) d .words)) (length out) (omega (arith, words-long, same)))))
             (subst (λ (n : ℕ). Answers n (accepted (finished v inputs (natAbs limit) d)) a after) same
             (subst (λ (l : ℕ). Answers (length one) (accepted (finished v inputs l d)) a after) limits
             (subst (λ (i : ℕ). Answers (length one) (accepted (finished i inputs most d)) a after) counted (c d out (got .ended)))))
@@ -205,7 +216,8 @@ module _ {bytes : List ℕ} {inputs : List ℤ} {limit : ℤ} (h : Startable byt
 -- ---- the call
 
 module _ (bytes : List ℕ) (inputs : List ℤ) (limit : ℤ) where
-  finish-by : finishRun bytes inputs limit ≡ (tests bytes inputs limit >>= λ p. run (p .root) (natAbs limit) (padded inputs) >>= λ d. accepted (finished (length (p .types)) inputs (natAbs limit) d))
+  finish-by : finishRun bytes inputs limit
+      ≡ (tests bytes inputs limit >>= λ p. run (p .root) (natAbs limit) (padded inputs) >>= λ d. accepted (finished (length (p .types)) inputs (natAbs limit) d))
   unfolding finishRun tests
   finish-by = along (check bytes)
     where
@@ -221,7 +233,8 @@ module _ (bytes : List ℕ) (inputs : List ℤ) (limit : ℤ) where
           over true false = refl
           over true true = refl
 
-  answer-of : (a : Answer) (out after : List ℤ) → RunAnswers bytes inputs limit (length out) a after → length after ≡ length out → IsRun bytes inputs limit (answerOf a) after
+  answer-of : (a : Answer) (out after : List ℤ) → RunAnswers bytes inputs limit (length out) a after → length after ≡ length out
+      → IsRun bytes inputs limit (answerOf a) after
   unfolding callRun
   answer-of a out after w same = record {
     answers = w .0 ∙ ap (λ (n : ℕ). answered n (finishRun bytes inputs limit >>= within n) .answer) (sym same);
@@ -230,17 +243,22 @@ module _ (bytes : List ℕ) (inputs : List ℤ) (limit : ℤ) where
 
 -- the limit was handed on as a word
 module _ (bytes : List ℕ) (inputs : List ℤ) {limit : ℤ} (fits : SFits w64 limit) where
-  pub run-answer : (a : Answer) (out after : List ℤ) → RunAnswers bytes inputs (toZ w64 (ofZ w64 limit)) (length out) a after → length after ≡ length out → IsRun bytes inputs limit (answerOf a) after
-  run-answer a out after w = answer-of bytes inputs limit a out after (subst (λ (z : ℤ). RunAnswers bytes inputs z (length out) a after) (toZ-ofZ w64 limit fits) w)
+  pub run-answer : (a : Answer) (out after : List ℤ) → RunAnswers bytes inputs (toZ w64 (ofZ w64 limit)) (length out) a after → length after ≡ length out
+      → IsRun bytes inputs limit (answerOf a) after
+  run-answer a out after w = answer-of bytes inputs limit a out after
+      (subst (λ (z : ℤ). RunAnswers bytes inputs z (length out) a after) (toZ-ofZ w64 limit fits) w)
 
-  pub run-refused : {r : Outcome} {q : Refusal} → r ≡ Refused q → Tested bytes inputs (toZ w64 (ofZ w64 limit)) r → (a : Answer) (out after : List ℤ) → Answers (length out) (refused (reasonOf q)) a after
+  pub run-refused : {r : Outcome} {q : Refusal} → r ≡ Refused q → Tested bytes inputs (toZ w64 (ofZ w64 limit)) r → (a : Answer) (out after : List ℤ)
+      → Answers (length out) (refused (reasonOf q)) a after
       → length after ≡ length out → IsRun bytes inputs limit (answerOf a) after
   unfolding Paper.numberOf
   run-refused {r} {q} e h a out after w =
-      answer-of bytes inputs limit a out after (subst (λ (o : Paper.Outcome Finished). Answers (length out) (o >>= within (length out)) a after) (sym (finish-by bytes inputs limit))
+      answer-of bytes inputs limit a out after
+      (subst (λ (o : Paper.Outcome Finished). Answers (length out) (o >>= within (length out)) a after) (sym (finish-by bytes inputs limit))
       (handed (tests bytes inputs limit) (subst (λ (z : ℤ). Tested bytes inputs z r) (toZ-ofZ w64 limit fits) h)))
     where
       handed : (m : Paper.Outcome Program) → numberOf r ≡ Paper.numberOf m
           → Answers (length out) ((m >>= λ p. run (p .root) (natAbs limit) (padded inputs) >>= λ d. accepted (finished (length (p .types)) inputs (natAbs limit) d)) >>= within (length out)) a after
       handed (accepted p) f = absurd (refused-some q e f)
-      handed (refused x) f = subst (λ (y : Paper.Refusal). Answers (length out) (refused y) a after) (number-injective (reasonOf q) x (sym (ap numberOf e) ∙ f)) w
+      handed (refused x) f = subst (λ (y : Paper.Refusal). Answers (length out) (refused y) a after)
+          (number-injective (reasonOf q) x (sym (ap numberOf e) ∙ f)) w

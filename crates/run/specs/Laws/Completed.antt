@@ -46,7 +46,8 @@ cut-laid out words fits =
     let all : 0 + length words ≤ length out = omega arith in
     ap (take (length words)) (lay-inside out 0 words all) ∙ take-append-seam words (drop (0 + length words) out)
 
-pub record-long : (limit steps : ℕ) (inputs outputs root : List ℤ) → length (recordOf limit steps inputs outputs root) ≡ 3 + length inputs + length outputs + length root
+pub record-long : (limit steps : ℕ) (inputs outputs root : List ℤ)
+    → length (recordOf limit steps inputs outputs root) ≡ 3 + length inputs + length outputs + length root
 unfolding recordOf
 record-long limit steps inputs outputs root = omega (arith, length-append inputs (outputs ++ root), length-append outputs root)
 
@@ -82,24 +83,31 @@ module _ {v : ℕ} {inputs : List ℤ} {limit : ℕ} {ran : Ran} {now : List ℤ
     -- the first v of the padded outputs
     firsts : {values : List ℤ} → values ≡ padded (take v (ran .store .values)) → take v values ≡ outputs
     unfolding padded
-    firsts is = ap (take v) (is ∙ ap (λ (l : List ℤ). padded (take v l)) (e .stores)) ∙ ap (λ (n : ℕ). take n (padded outputs)) (sym outputs-long) ∙ take-append-seam outputs (zeros (mostVariables - length outputs))
+    firsts is = ap (take v) (is ∙ ap (λ (l : List ℤ). padded (take v l)) (e .stores)) ∙ ap (λ (n : ℕ). take n (padded outputs)) (sym outputs-long)
+        ∙ take-append-seam outputs (zeros (mostVariables - length outputs))
 
     pub buffer-is : {three four five after values : List ℤ}
-        → three ≡ set (set (set now 0 (pos (ran .at))) 1 (pos limit)) 2 (pos (limit - ran .left)) → four ≡ lay three 3 inputs → five ≡ lay four (3 + v) (take v values)
-        → values ≡ padded (take v (ran .store .values)) → after ≡ take (ran .at) five ++ zeros (length five - ran .at) → after ≡ answered (length now) (accepted (finished v inputs limit d)) .buffer
+        → three ≡ set (set (set now 0 (pos (ran .at))) 1 (pos limit)) 2 (pos (limit - ran .left)) → four ≡ lay three 3 inputs
+        → five ≡ lay four (3 + v) (take v values)
+        → values ≡ padded (take v (ran .store .values)) → after ≡ take (ran .at) five ++ zeros (length five - ran .at)
+        → after ≡ answered (length now) (accepted (finished v inputs limit d)) .buffer
     unfolding answered recordOf
     buffer-is {five = five} a₃ a₄ a₅ is a₆ =
         let laid : five ≡ lay out 0 words
-        = a₅ ∙ ap₂ {C = List ℤ} (λ (l ws : List ℤ). lay l (3 + v) ws) (a₄ ∙ ap (λ (l : List ℤ). lay l 3 inputs) (a₃ ∙ ap₂ {C = List ℤ} (λ (l : List ℤ) (n : ℕ). set l 2 (pos n)) (ap (λ (l : List ℤ). set l 1 (pos limit))
+        = a₅ ∙ ap₂ {C = List ℤ} (λ (l ws : List ℤ). lay l (3 + v) ws)
+        (a₄ ∙ ap (λ (l : List ℤ). lay l 3 inputs) (a₃ ∙ ap₂ {C = List ℤ} (λ (l : List ℤ) (n : ℕ). set l 2 (pos n)) (ap (λ (l : List ℤ). set l 1 (pos limit))
         (ap₂ {C = List ℤ} (λ (l : List ℤ) (n : ℕ). set l 0 (pos n)) (e .lays) long-body)) steps-are)) (firsts is)
-        ∙ record-laid out inputs outputs (d .words) (pos (headed + length (inputs ++ (outputs ++ d .words)))) (pos limit) (pos (d .steps)) v (h .each) outputs-long in
+        ∙ record-laid out inputs outputs (d .words) (pos (headed + length (inputs ++ (outputs ++ d .words)))) (pos limit) (pos (d .steps)) v
+        (h .each) outputs-long in
         let fits : length words ≤ length out = omega (arith, h .room, long, out-long) in
         let same : length five ≡ length now = ap length laid ∙ length-lay out 0 words ∙ sym out-long in
         a₆ ∙ ap₂ {C = List ℤ} (λ (n m : ℕ). take n five ++ zeros (m - n)) long same
         ∙ ap (λ (l : List ℤ). l ++ zeros (length now - length words)) (ap (take (length words)) laid ∙ cut-laid out words fits)
 
-    pub answer-is : (r : Answer) → r .outcome ≡ Accepted → r .steps ≡ limit - ran .left → r .walked ≡ 0 → r .reused ≡ 0 → r .fresh ≡ limit - ran .left → r .length ≡ ran .at
-        → r .values ≡ padded (take v (ran .store .values)) → r .changes ≡ zeros mostVariables → answerOf r ≡ answered (length now) (accepted (finished v inputs limit d)) .answer
+    pub answer-is : (r : Answer) → r .outcome ≡ Accepted → r .steps ≡ limit - ran .left → r .walked ≡ 0 → r .reused ≡ 0 → r .fresh ≡ limit - ran .left
+        → r .length ≡ ran .at
+        → r .values ≡ padded (take v (ran .store .values)) → r .changes ≡ zeros mostVariables
+        → answerOf r ≡ answered (length now) (accepted (finished v inputs limit d)) .answer
     unfolding answered allFresh
     answer-is r a b w u f l vs cs =
         ap₂ {C = Paper-Answer} (λ (o : Outcome) (n : ℕ). record { number = numberOf o; steps = n; counts = record { walked = r .walked; reused = r .reused; fresh = r .fresh }; length = r .length; values = r .values; changes = r .changes }) a (b ∙ steps-are ∙ sym (all-fresh (d .steps)))
@@ -107,7 +115,8 @@ module _ {v : ℕ} {inputs : List ℤ} {limit : ℕ} {ran : Ran} {now : List ℤ
         ∙ ap₂ {C = Paper-Answer} (λ (ws zs : List ℤ). record { number = 0; steps = stepsOf (allFresh (d .steps)); counts = allFresh (d .steps); length = length words; values = ws; changes = zs }) (vs ∙ ap (λ (l : List ℤ). padded (take v l)) (e .stores)) cs
       where
         counts : _≡_ {A = Counts} (record { walked = r .walked; reused = r .reused; fresh = r .fresh }) (allFresh (d .steps))
-        counts = ap₂ {C = Counts} (λ (x y : ℕ). record { walked = x; reused = y; fresh = r .fresh }) w u ∙ ap {B = Counts} (λ (n : ℕ). record { walked = 0; reused = 0; fresh = n }) (f ∙ steps-are)
+        counts = ap₂ {C = Counts} (λ (x y : ℕ). record { walked = x; reused = y; fresh = r .fresh }) w u
+            ∙ ap {B = Counts} (λ (n : ℕ). record { walked = 0; reused = 0; fresh = n }) (f ∙ steps-are)
 
 -- ---- a refused call
 

@@ -49,7 +49,8 @@ module _ {bytes : List ℕ} {base : ℕ} {lists : List ℕ} {node : ℕ} {values
   pub named : nodeOf tree ≡ node
   named = let s = stands bytes program checked node (statement tree) here in named-by (s .kind) (s .built)
 
-  last-by : (kd : Kind) → nodeAt bytes node .kind ≡ numberOfKind kd → Built (typesOf bytes) (take node (partsOf bytes)) node (nodeAt bytes node) kd (statement tree)
+  last-by : (kd : Kind) → nodeAt bytes node .kind ≡ numberOfKind kd
+      → Built (typesOf bytes) (take node (partsOf bytes)) node (nodeAt bytes node) kd (statement tree)
       → (nodeAt bytes node .kind ≡ 16 → ⊥) → (nodeAt bytes node .kind ≡ 17 → ⊥) → (nodeAt bytes node .kind ≡ 18 → ⊥) → (nodeAt bytes node .kind ≡ 19 → ⊥)
       → nodeAt bytes node .kind ≡ 20
   last-by numberConstant e b a₁ a₂ a₃ a₄ = absurd (no-expression b)
@@ -71,7 +72,8 @@ module _ {bytes : List ℕ} {base : ℕ} {lists : List ℕ} {node : ℕ} {values
 
 -- ---- a statement: a step, the parts, the opening words
 
-pub three-before : (out words : List ℤ) (at : ℕ) (x y z : ℤ) → set (set (set (lay out (at + 3) words) at x) (at + 1) y) (at + 2) z ≡ lay out at (x ∷ y ∷ z ∷ words)
+pub three-before : (out words : List ℤ) (at : ℕ) (x y z : ℤ)
+    → set (set (set (lay out (at + 3) words) at x) (at + 1) y) (at + 2) z ≡ lay out at (x ∷ y ∷ z ∷ words)
 unfolding lay
 three-before out words at x y z =
     let two : at + 2 ≡ suc (suc at) = omega arith in
@@ -101,7 +103,8 @@ module _ {bytes : List ℕ} {base : ℕ} {lists : List ℕ} {node : ℕ} {values
       let same : left ≡ suc (left - 1) = omega arith in
       run-inside tree left values ∙ ap₂ {C = Paper.Outcome Done} (λ (n l : ℕ). enter n l (inside tree values)) (named (h .known)) same
 
-  pub entry-refused : (has : left ≡ 0 → ⊥) (r : Ran) (out after : List ℤ) → PartsTo bytes node values (left - 1) r out (at + 3) after → {q : Refusal} → r .outcome ≡ Refused q
+  pub entry-refused : (has : left ≡ 0 → ⊥) (r : Ran) (out after : List ℤ) → PartsTo bytes node values (left - 1) r out (at + 3) after → {q : Refusal}
+      → r .outcome ≡ Refused q
       → (after′ : List ℤ) → RunsTo bytes node values left r out at after′
   unfolding enter
   entry-refused has r out after p {q} e after′ = for-statement (h .known) (λ s. RanAs (run s left values) r out left at after′)
@@ -165,7 +168,8 @@ module _ {bytes : List ℕ} {base : ℕ} {lists : List ℕ} {node : ℕ} {values
 -- ---- skip
 
 -- a skip's parts are none
-pub skip-answer : {bytes : List ℕ} {base : ℕ} {lists : List ℕ} {node : ℕ} {values : List ℤ} {left at : ℕ} (h : Inner bytes base lists node values left at) → nodeAt bytes node .kind ≡ 16
+pub skip-answer : {bytes : List ℕ} {base : ℕ} {lists : List ℕ} {node : ℕ} {values : List ℤ} {left at : ℕ} (h : Inner bytes base lists node values left at)
+    → nodeAt bytes node .kind ≡ 16
     → (r : Ran) → r .outcome ≡ Accepted → r .store .values ≡ values → r .left ≡ left → r .at ≡ at → (out : List ℤ) → PartsTo bytes node values left r out at out
 unfolding inside lay
 skip-answer {left} {at} h kinded r a s l p out = for-parts (h .known) (statement-of (built (h .known) skip kinded)) left r out at out

@@ -71,7 +71,8 @@ module _ {bytes : List ℕ} {base node : ℕ} {values : List ℤ} {at : ℕ} (h 
       let same : k ≡ nodeAt bytes node .kind = read-node (λ n. n .kind) e in
       (λ f. one (same ∙ f), (λ f. two (same ∙ f), λ f. three (same ∙ f)))
 
-  pub built : (k : Kind) → nodeAt bytes node .kind ≡ numberOfKind k → Built (typesOf bytes) (take node (partsOf bytes)) node (nodeAt bytes node) k (expression type tree)
+  pub built : (k : Kind) → nodeAt bytes node .kind ≡ numberOfKind k
+      → Built (typesOf bytes) (take node (partsOf bytes)) node (nodeAt bytes node) k (expression type tree)
   built k e = stands-as bytes program checked node (expression type tree) k here e
 
   pub few : length (typesOf bytes) ≤ 32
@@ -79,7 +80,8 @@ module _ {bytes : List ℕ} {base node : ℕ} {values : List ℤ} {at : ℕ} (h 
   few = subst (λ (ts : List Ty). length ts ≤ 32) (through bytes program checked .types) (holds-of (subst (Holds Sound) checked (check-sound bytes)) .few)
 
   -- an answer with an empty record
-  plain-answer : (out : List ℤ) (z w : ℤ) (d : Expression) (u : Ty) → evaluate d values ≡ accepted (record { value = z; words = [] }) → expression type tree ≡ expression u d → w ≡ z
+  plain-answer : (out : List ℤ) (z w : ℤ) (d : Expression) (u : Ty) → evaluate d values ≡ accepted (record { value = z; words = [] })
+      → expression type tree ≡ expression u d → w ≡ z
       → (t : Ty) (e : Expression) → partAt bytes node ≡ some (expression t e) → EvaluatedAs (evaluate e values) (Value w at) out at out
   unfolding lay
   plain-answer out z w d u ev same q = for-each bytes node (λ e. EvaluatedAs (evaluate e values) (Value w at) out at out) (here ∙ ap some same)
@@ -131,7 +133,8 @@ module _ {bytes : List ℕ} {base node : ℕ} {values : List ℤ} {at : ℕ} (h 
   pub constant-answer : k ≡ 1 → {z : ℤ} → z ≡ constantOf (nodeRead bytes base node) → mag z < 9_223_372_036_854_775_808
       → (out : List ℤ) → EvaluatesTo bytes node values (Value (toZ w64 (ofZ w64 z)) at) out at out
   unfolding evaluate
-  constant-answer e {z} read fits out = plain-answer h out (constantOf (nodeAt bytes node)) _ (Expression.constant node (constantOf (nodeAt bytes node))) Ty.number refl
+  constant-answer e {z} read fits out = plain-answer h out (constantOf (nodeAt bytes node)) _
+      (Expression.constant node (constantOf (nodeAt bytes node))) Ty.number refl
       (built h numberConstant (kind-is h read-kind e)) (word-back z fits ∙ read-node h constantOf read)
 
   module _ {tag : ℕ} (read : tag ≡ nodeRead bytes base node .tag) where
@@ -153,6 +156,7 @@ module _ {bytes : List ℕ} {base node : ℕ} {values : List ℤ} {at : ℕ} (h 
     -- a variable's answer is its value
     pub variable-answer : k ≡ 3 → (out : List ℤ) → EvaluatesTo bytes node values (Value (toZ w64 (ofZ w64 (valueAt values tag))) at) out at out
     unfolding evaluate
-    variable-answer e out = plain-answer h out (valueAt values (nodeAt bytes node .tag)) _ (Expression.variable node (nodeAt bytes node .tag)) (typeOf (typesOf bytes) (nodeAt bytes node .tag)) refl
+    variable-answer e out = plain-answer h out (valueAt values (nodeAt bytes node .tag)) _ (Expression.variable node (nodeAt bytes node .tag))
+        (typeOf (typesOf bytes) (nodeAt bytes node .tag)) refl
         (built h variable (kind-is h read-kind e) .0)
         (word-back (valueAt values tag) (omega (arith, mag-of-type (typeOf (typesOf bytes) tag) (valueAt values tag) (h .good tag))) ∙ ap (valueAt values) tag-is)

@@ -49,10 +49,12 @@ behind-turn vs d e (refused q) = refl
 behind-turn vs d e (accepted r) =
     let steps : d .steps + (e .steps + r .steps) ≡ d .steps + e .steps + r .steps = omega arith in
     let words : d .words ++ (e .words ++ (snapshot vs (e .store) ++ r .words)) ≡ (d .words ++ (e .words ++ snapshot vs (e .store))) ++ r .words
-    = ap (λ (l : List ℤ). d .words ++ l) (sym (append-assoc (e .words) (snapshot vs (e .store)) (r .words))) ∙ sym (append-assoc (d .words) (e .words ++ snapshot vs (e .store)) (r .words)) in
+    = ap (λ (l : List ℤ). d .words ++ l) (sym (append-assoc (e .words) (snapshot vs (e .store)) (r .words)))
+    ∙ sym (append-assoc (d .words) (e .words ++ snapshot vs (e .store)) (r .words)) in
     ap₂ {C = Paper.Outcome Done} (λ (n : ℕ) (l : List ℤ). accepted (record { store = r .store; steps = n; words = l })) steps words
 
-module _ {bytes : List ℕ} {base : ℕ} {lists : List ℕ} {node body : ℕ} {values : List ℤ} {left at : ℕ} (h : Repeatable bytes base lists node body values left at) where
+module _ {bytes : List ℕ} {base : ℕ} {lists : List ℕ} {node body : ℕ} {values : List ℤ} {left at : ℕ}
+    (h : Repeatable bytes base lists node body values left at) where
   abbrev b : Statement
   b = h .bodied .tree
 
@@ -63,11 +65,13 @@ module _ {bytes : List ℕ} {base : ℕ} {lists : List ℕ} {node body : ℕ} {v
   pub record Iterated (count : ℕ) (out : List ℤ) (i : ℕ) (r : Ran) (now : List ℤ) : Type 0 where
     pub done : Done
     pub ended : EndedAs done r out left at now
-    pub goes-on : (m : ℕ) → i + m ≡ count → iterate (run b) vs count left values ≡ (iterate (run b) vs m (left - done .steps) (done .store) >>= λ f. accepted (follow done f))
+    pub goes-on : (m : ℕ) → i + m ≡ count → iterate (run b) vs count left values
+        ≡ (iterate (run b) vs m (left - done .steps) (done .store) >>= λ f. accepted (follow done f))
     pub fine : Fine (typesOf bytes) (done .store)
     pub short : length (done .words) ≤ weight * done .steps
 
-  pub iterated-none : (count : ℕ) (out : List ℤ) (r : Ran) → r .outcome ≡ Accepted → r .store .values ≡ values → r .left ≡ left → r .at ≡ at → Iterated count out 0 r out
+  pub iterated-none : (count : ℕ) (out : List ℤ) (r : Ran) → r .outcome ≡ Accepted → r .store .values ≡ values → r .left ≡ left → r .at ≡ at
+      → Iterated count out 0 r out
   unfolding lay
   iterated-none count out r a s l p = record {
     done = none values;
@@ -87,7 +91,8 @@ module _ {bytes : List ℕ} {base : ℕ} {lists : List ℕ} {node body : ℕ} {v
           ap₂ {C = Paper.Outcome Done} (λ (n l : ℕ). iterate (run b) vs n l values) same all ∙ behind-none values (iterate (run b) vs m (left - 0) values)
 
   -- what is shown of the node's and the body's trees is shown of each
-  each : (count : ℕ) (out : List ℤ) (r : Ran) (now : List ℤ) → RanAs (iterate (run b) vs count left values) r out left at now → RepeatsTo bytes node body count values left r out at now
+  each : (count : ℕ) (out : List ℤ) (r : Ran) (now : List ℤ) → RanAs (iterate (run b) vs count left values) r out left at now
+      → RepeatsTo bytes node body count values left r out at now
   each count out r now w s c here below =
       for-statement (h .known) (λ s′. RanAs (iterate (run c) (mentions s′) count left values) r out left at now)
       (for-statement (h .bodied) (λ c′. RanAs (iterate (run c′) vs count left values) r out left at now) w c below) s here
@@ -124,7 +129,8 @@ module _ {bytes : List ℕ} {base : ℕ} {lists : List ℕ} {node body : ℕ} {v
       rest = omega (arith, so .ended .leaves)
 
       ran : RanAs (run b (left - so .done .steps) (so .done .store)) r₁ now (r .left) (r .at) one
-      ran = subst (λ (m : Paper.Outcome Done). RanAs m r₁ now (r .left) (r .at) one) (ap₂ {C = Paper.Outcome Done} (run b) rest (so .ended .stores)) (p b (h .bodied .here))
+      ran = subst (λ (m : Paper.Outcome Done). RanAs m r₁ now (r .left) (r .at) one) (ap₂ {C = Paper.Outcome Done} (run b) rest (so .ended .stores))
+          (p b (h .bodied .here))
 
       pub again-refused : {q : Refusal} → r₁ .outcome ≡ Refused q → (final : List ℤ) → RepeatsTo bytes node body count values left r₁ out at final
       unfolding iterate
@@ -133,7 +139,8 @@ module _ {bytes : List ℕ} {base : ℕ} {lists : List ℕ} {node body : ℕ} {v
           each count out r₁ final (subst (λ (m : Paper.Outcome Done). RanAs m r₁ out left at final) (sym (so .goes-on (suc (count - suc i)) more))
           (twice (run b (left - so .done .steps) (so .done .store)) _ _ ran))
         where
-          twice : (m : Paper.Outcome Done) (next last : Done → Paper.Outcome Done) → RanAs m r₁ now (r .left) (r .at) one → RanAs ((m >>= next) >>= last) r₁ out left at final
+          twice : (m : Paper.Outcome Done) (next last : Done → Paper.Outcome Done) → RanAs m r₁ now (r .left) (r .at) one
+              → RanAs ((m >>= next) >>= last) r₁ out left at final
           twice (accepted d) next last g = absurd (accepted-refused (sym (g .accepts) ∙ e))
           twice (refused p) next last g = g
 
@@ -161,7 +168,8 @@ module _ {bytes : List ℕ} {base : ℕ} {lists : List ℕ} {node body : ℕ} {v
             ) in
             listed-at (h .known) (r₁ .at) near
 
-        pub again-done : (r₂ : Ran) (two : List ℤ) → r₂ .outcome ≡ Accepted → r₂ .store .values ≡ r₁ .store .values → r₂ .left ≡ r₁ .left → r₂ .at ≡ r₁ .at + length (listAt lists node)
+        pub again-done : (r₂ : Ran) (two : List ℤ) → r₂ .outcome ≡ Accepted → r₂ .store .values ≡ r₁ .store .values → r₂ .left ≡ r₁ .left
+            → r₂ .at ≡ r₁ .at + length (listAt lists node)
             → two ≡ lay one (r₁ .at) (snapshot (listAt lists node) (r₁ .store .values)) → Iterated count out (i + 1) r₂ two
         unfolding iterate
         again-done r₂ two a s l p laid = record {
@@ -199,7 +207,8 @@ module _ {bytes : List ℕ} {base : ℕ} {lists : List ℕ} {node body : ℕ} {v
                 ∙ ap₂ {C = List ℤ} (λ (o : List ℤ) (j : ℕ). lay o j (f .words ++ snapshot vs (f .store))) (so .ended .lays) (so .ended .ends)
                 ∙ sym (lay-append out at (d .words) (f .words ++ snapshot vs (f .store)))
 
-            on : (m : ℕ) → i + 1 + m ≡ count → iterate (run b) vs count left values ≡ (iterate (run b) vs m (left - (d .steps + f .steps)) (f .store) >>= λ g. accepted (follow (follow d (turn vs f)) g))
+            on : (m : ℕ) → i + 1 + m ≡ count → iterate (run b) vs count left values
+                ≡ (iterate (run b) vs m (left - (d .steps + f .steps)) (f .store) >>= λ g. accepted (follow (follow d (turn vs f)) g))
             on m q =
                 let more : i + suc m ≡ count = omega arith in
                 let less : left - d .steps - f .steps ≡ left - (d .steps + f .steps) = omega arith in

@@ -124,7 +124,8 @@ module _ {bytes : List ℕ} {base : ℕ} {lists : List ℕ} {node : ℕ} {values
           child-evaluable k count-here (repeat-small .0) near
 
       module _ (a : Evaluated) (one two : List ℤ) (answer : EvaluatesTo bytes child values a one second two) where
-        pub count-refused : {q : Refusal} → a ≡ Stopped q → (r : Ran) → r .outcome ≡ Refused q → (out final : List ℤ) → PartsTo bytes node values left r out at final
+        pub count-refused : {q : Refusal} → a ≡ Stopped q → (r : Ran) → r .outcome ≡ Refused q → (out final : List ℤ)
+            → PartsTo bytes node values left r out at final
         unfolding inside
         count-refused {q} e r f out final = for-parts k (as-repeat .is) left r out at final
             (evaluation-refused (evaluate (as-repeat .e) values) _ q r one out left second at two final (answer Ty.number (as-repeat .e) count-here) e f)
@@ -152,15 +153,18 @@ module _ {bytes : List ℕ} {base : ℕ} {lists : List ℕ} {node : ℕ} {values
           record { known = k; bodied = child-known k body-here (repeat-small .2) (k .fine); within = within; near = near }
 
       -- the count was handed on as a word
-      pub loop-answer : mag z < 9_223_372_036_854_775_808 → (out three : List ℤ) → one ≡ lay out (at + 1) (snapshot (listAt lists node) values) → three ≡ set two at (toZ w64 (ofZ w64 z))
-          → {count : ℕ} → count ≡ times (toZ w64 (ofZ w64 z)) → (r : Ran) (final : List ℤ) → RepeatsTo bytes node body count values left r three third final → PartsTo bytes node values left r out at final
+      pub loop-answer : mag z < 9_223_372_036_854_775_808 → (out three : List ℤ) → one ≡ lay out (at + 1) (snapshot (listAt lists node) values)
+          → three ≡ set two at (toZ w64 (ofZ w64 z))
+          → {count : ℕ} → count ≡ times (toZ w64 (ofZ w64 z)) → (r : Ran) (final : List ℤ) → RepeatsTo bytes node body count values left r three third final
+          → PartsTo bytes node values left r out at final
       unfolding inside
       loop-answer fits out three b c counts r final turns =
           let vs = mentions (Statement.repeat node (as-repeat .e) (as-repeat .s)) in
           let x = got₁ .valued in
           let value : toZ w64 (ofZ w64 z) ≡ x .value = word-back z fits ∙ got₁ .value in
           let words : three ≡ set (lay (lay out (at + 1) (snapshot vs values)) second (x .words)) at (x .value)
-          = c ∙ ap₂ {C = List ℤ} (λ (l : List ℤ) (w : ℤ). set l at w) (got₁ .lays ∙ ap (λ (l : List ℤ). lay l second (x .words)) (b ∙ ap (λ (ws : List ℕ). lay out (at + 1) (snapshot ws values)) repeat-variables)) value in
+          = c ∙ ap₂ {C = List ℤ} (λ (l : List ℤ) (w : ℤ). set l at w)
+          (got₁ .lays ∙ ap (λ (l : List ℤ). lay l second (x .words)) (b ∙ ap (λ (ws : List ℕ). lay out (at + 1) (snapshot ws values)) repeat-variables)) value in
           let turns′ : RanAs (iterate (run (as-repeat .s)) vs (times (x .value)) left values) r (set (lay (lay out (at + 1) (snapshot vs values)) second (x .words)) at (x .value)) left third final
           = subst (λ (l : List ℤ). RanAs (iterate (run (as-repeat .s)) vs (times (x .value)) left values) r l left third final) words
           (subst (λ (n : ℕ). RanAs (iterate (run (as-repeat .s)) vs n left values) r three left third final) (counts ∙ ap times value)

@@ -83,7 +83,8 @@ same-kind : (o p : Operator) → numberOfKind (operator o) ≡ numberOfKind (ope
 same-kind o p e = sym (of-number o) ∙ ap fromNumber e ∙ of-number p
   where
     fromNumber : ℕ → Operator
-    fromNumber n = pick (leb n 4) Operator.add (pick (leb n 5) Operator.subtract (pick (leb n 6) Operator.multiply (pick (leb n 7) Operator.greater Operator.equal)))
+    fromNumber n = pick (leb n 4) Operator.add
+        (pick (leb n 5) Operator.subtract (pick (leb n 6) Operator.multiply (pick (leb n 7) Operator.greater Operator.equal)))
       where
         pick : Bool → Operator → Operator → Operator
         pick true a b = a
@@ -189,7 +190,8 @@ module _ (o : Operator) (x y z : ℤ) (is : z ≡ apply o x y) (fits : mag z < 9
       rw (result-in o x y h, back)
 
 -- two numbers put down, one behind the other
-pub two-put : (out : List ℤ) {one two : List ℤ} (at : ℕ) (x y : ℤ) → Number x → Number y → one ≡ set out at (toZ w64 (ofZ w64 x)) → two ≡ set one (at + 1) (toZ w64 (ofZ w64 y))
+pub two-put : (out : List ℤ) {one two : List ℤ} (at : ℕ) (x y : ℤ) → Number x → Number y → one ≡ set out at (toZ w64 (ofZ w64 x))
+    → two ≡ set one (at + 1) (toZ w64 (ofZ w64 y))
     → two ≡ set (set out at x) (at + 1) y
 two-put out at x y hx hy e f =
     f ∙ ap₂ {C = List ℤ} (λ (l : List ℤ) (z : ℤ). set l (at + 1) z) (e ∙ ap (set out at) (plain x hx)) (plain y hy)
@@ -199,7 +201,8 @@ pub word-back : (z : ℤ) → mag z < 9_223_372_036_854_775_808 → toZ w64 (ofZ
 word-back z h = toZ-ofZ w64 z (word z h)
 
 -- three counts put down, one behind the other
-pub three-put : (out : List ℤ) {one two three : List ℤ} (at i j k : ℕ) → i < 9_223_372_036_854_775_808 → j < 9_223_372_036_854_775_808 → k < 9_223_372_036_854_775_808
+pub three-put : (out : List ℤ) {one two three : List ℤ} (at i j k : ℕ) → i < 9_223_372_036_854_775_808 → j < 9_223_372_036_854_775_808
+    → k < 9_223_372_036_854_775_808
     → one ≡ set out at (toZ w64 i) → two ≡ set one (at + 1) (toZ w64 j) → three ≡ set two (at + 2) (toZ w64 k)
     → three ≡ set (set (set out at (pos i)) (at + 1) (pos j)) (at + 2) (pos k)
 three-put out at i j k hi hj hk e f g =

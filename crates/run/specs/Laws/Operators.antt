@@ -36,7 +36,8 @@ use Rattle.run.specs.Laws.Expressions.{nodeRead, read-node, for-each, Go
 
 -- ---- an operator's last step
 
-outside-by : (b : Bool) (z : ℤ) (end : ℕ) → choose b (Result z) Outside ≡ Outside → Refused (refusalFor outOfRange) ≡ choose b (Value z end) (Refused (refusalFor outOfRange))
+outside-by : (b : Bool) (z : ℤ) (end : ℕ) → choose b (Result z) Outside ≡ Outside
+    → Refused (refusalFor outOfRange) ≡ choose b (Value z end) (Refused (refusalFor outOfRange))
 outside-by true z end e = absurd (apart e)
   where
     apart : _≡_ {A = Computed} (Result z) Outside → ⊥
@@ -136,7 +137,8 @@ module _ {bytes : List ℕ} {base node : ℕ} {values : List ℤ} {at : ℕ} (h 
   unfolding operations
   enough = subst (λ (e : Expression). at + 2 * operations e ≤ farthest) is near
 
-  operand : {i : ℕ} {e : Expression} {from : ℕ} → partAt bytes i ≡ some (expression Ty.number e) → from + 2 * operations e ≤ farthest → Evaluable bytes base i values from
+  operand : {i : ℕ} {e : Expression} {from : ℕ} → partAt bytes i ≡ some (expression Ty.number e) → from + 2 * operations e ≤ farthest
+      → Evaluable bytes base i values from
   operand {e} stands far = record { program = program; checked = checked; based = based; type = Ty.number; tree = e; here = stands; good = good; near = far }
 
   -- an operand's value is a number

@@ -48,7 +48,8 @@ both d (accepted f) r out one two left rest at behind steps place laid h =
 -- ---- a statement below
 
 abbrev pub child-known : {bytes : List ℕ} {base : ℕ} {lists : List ℕ} {node : ℕ} {values : List ℤ} → Known bytes base lists node values
-    → {child : ℕ} {c : Statement} → partAt bytes child ≡ some (statement c) → Small c → {store : List ℤ} → Fine (typesOf bytes) store → Known bytes base lists child store
+    → {child : ℕ} {c : Statement} → partAt bytes child ≡ some (statement c) → Small c → {store : List ℤ} → Fine (typesOf bytes) store
+    → Known bytes base lists child store
 child-known k {c} here small fine = record {
   program = k .program;
   checked = k .checked;
@@ -137,13 +138,15 @@ module _ {bytes : List ℕ} {base : ℕ} {lists : List ℕ} {node : ℕ} {values
           near = near;
         }
 
-    pub sequence-answer : (r : Ran) (two : List ℤ) → RunsTo bytes child (r₁ .store .values) (r₁ .left) r one (r₁ .at) two → PartsTo bytes node values left r out at two
+    pub sequence-answer : (r : Ran) (two : List ℤ) → RunsTo bytes child (r₁ .store .values) (r₁ .left) r one (r₁ .at) two
+        → PartsTo bytes node values left r out at two
     unfolding inside
     sequence-answer r two p =
         let d = got .done in
         let rest : r₁ .left ≡ left - d .steps = omega (arith, got .ended .leaves) in
         let second : RanAs (run (as-sequence .t) (left - d .steps) (d .store)) r one (r₁ .left) (r₁ .at) two
-        = subst (λ (m : Paper.Outcome Done). RanAs m r one (r₁ .left) (r₁ .at) two) (ap₂ {C = Paper.Outcome Done} (run (as-sequence .t)) rest (got .ended .stores))
+        = subst (λ (m : Paper.Outcome Done). RanAs m r one (r₁ .left) (r₁ .at) two)
+        (ap₂ {C = Paper.Outcome Done} (run (as-sequence .t)) rest (got .ended .stores))
         (p (as-sequence .t) (ap (partAt bytes) second-is ∙ as-sequence .second .1)) in
         for-parts (h .inner .known) (as-sequence .is) left r out at two
         (rw (got .comes)

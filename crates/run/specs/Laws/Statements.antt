@@ -51,7 +51,8 @@ module _ {bytes : List ℕ} {base : ℕ} {lists : List ℕ} {node : ℕ} {values
   pub kind-read : {n m : ℕ} → n ≡ nodeRead bytes base node .kind → n ≡ m → nodeAt bytes node .kind ≡ m
   kind-read e f = sym (read-field (λ n. n .kind) e) ∙ f
 
-  pub built : (kd : Kind) → nodeAt bytes node .kind ≡ numberOfKind kd → Built (typesOf bytes) (take node (partsOf bytes)) node (nodeAt bytes node) kd (statement tree)
+  pub built : (kd : Kind) → nodeAt bytes node .kind ≡ numberOfKind kd
+      → Built (typesOf bytes) (take node (partsOf bytes)) node (nodeAt bytes node) kd (statement tree)
   built kd e = stands-as bytes program checked node (statement tree) kd here e
 
   -- what holds of the node's tree holds of each statement of the node
@@ -61,7 +62,8 @@ module _ {bytes : List ℕ} {base : ℕ} {lists : List ℕ} {node : ℕ} {values
   -- and what is shown of the parts of its tree is shown of the node's parts
   pub for-parts : {s : Statement} → tree ≡ s → (left : ℕ) (r : Ran) (out : List ℤ) (at : ℕ) (after : List ℤ) → RanAs (inside s values left) r out left at after
       → PartsTo bytes node values left r out at after
-  for-parts e left r out at after h = for-statement (λ s. RanAs (inside s values left) r out left at after) (subst (λ (s : Statement). RanAs (inside s values left) r out left at after) (sym e) h)
+  for-parts e left r out at after h = for-statement (λ s. RanAs (inside s values left) r out left at after)
+      (subst (λ (s : Statement). RanAs (inside s values left) r out left at after) (sym e) h)
 
   list : ListOf bytes lists node (statement tree)
   list = listed .each node (statement tree) here
@@ -112,12 +114,14 @@ pub record RunGot (m : Paper.Outcome Done) (r : Ran) (out : List ℤ) (left at :
 pub accepted-refused : {q : Refusal} → Accepted ≡ Refused q → ⊥
 accepted-refused e = let z : _≡_ {A = ℕ} 0 1 = cc in omega arith
 
-pub run-got : (m : Paper.Outcome Done) (r : Ran) (out : List ℤ) (left at : ℕ) (after : List ℤ) → RanAs m r out left at after → r .outcome ≡ Accepted → RunGot m r out left at after
+pub run-got : (m : Paper.Outcome Done) (r : Ran) (out : List ℤ) (left at : ℕ) (after : List ℤ) → RanAs m r out left at after → r .outcome ≡ Accepted
+    → RunGot m r out left at after
 run-got (accepted d) r out left at after h e = record { done = d; comes = refl; ended = h }
 run-got (refused q) r out left at after h e = absurd (accepted-refused (sym e ∙ h))
 
 -- a refusal of a part is the refusal of the whole
-pub run-refused : (m : Paper.Outcome Done) (next : Done → Paper.Outcome Done) (r : Ran) (q : Refusal) (out out′ : List ℤ) (left left′ at at′ : ℕ) (after after′ : List ℤ)
+pub run-refused : (m : Paper.Outcome Done) (next : Done → Paper.Outcome Done) (r : Ran) (q : Refusal) (out out′ : List ℤ) (left left′ at at′ : ℕ)
+    (after after′ : List ℤ)
     → RanAs m r out left at after → r .outcome ≡ Refused q → RanAs (m >>= next) r out′ left′ at′ after′
 run-refused (accepted d) next r q out out′ left left′ at at′ after after′ h e = absurd (accepted-refused (sym (h .accepts) ∙ e))
 run-refused (refused p) next r q out out′ left left′ at at′ after after′ h e = h
@@ -128,7 +132,8 @@ value-stopped p = let z : _≡_ {A = ℕ} 0 1 = cc in omega arith
 stopped-of : {p q : Refusal} → Stopped p ≡ Stopped q → p ≡ q
 stopped-of e = cc
 
-pub evaluation-refused : (m : Paper.Outcome Valued) (next : Valued → Paper.Outcome Done) {a : Evaluated} (q : Refusal) (r : Ran) (out out′ : List ℤ) (left at at′ : ℕ) (after after′ : List ℤ)
+pub evaluation-refused : (m : Paper.Outcome Valued) (next : Valued → Paper.Outcome Done) {a : Evaluated} (q : Refusal) (r : Ran) (out out′ : List ℤ)
+    (left at at′ : ℕ) (after after′ : List ℤ)
     → EvaluatedAs m a out at after → a ≡ Stopped q → r .outcome ≡ Refused q → RanAs (m >>= next) r out′ left at′ after′
 evaluation-refused (accepted v) next q r out out′ left at at′ after after′ h e f = absurd (value-stopped (sym (h .0) ∙ e))
 evaluation-refused (refused p) next q r out out′ left at at′ after after′ h e f = f ∙ ap Refused (sym (stopped-of (sym h ∙ e)))
@@ -136,7 +141,8 @@ evaluation-refused (refused p) next q r out out′ left at at′ after after′ 
 -- ---- assign
 
 -- a child that is an expression can be evaluated
-pub child-evaluable : {bytes : List ℕ} {base : ℕ} {lists : List ℕ} {node : ℕ} {values : List ℤ} (k : Known bytes base lists node values) {child : ℕ} {t : Ty} {e : Expression} {at : ℕ}
+pub child-evaluable : {bytes : List ℕ} {base : ℕ} {lists : List ℕ} {node : ℕ} {values : List ℤ} (k : Known bytes base lists node values) {child : ℕ} {t : Ty}
+    {e : Expression} {at : ℕ}
     → partAt bytes child ≡ some (expression t e) → fewOperators e → at + 33_554_432 ≤ farthest → Evaluable bytes base child values at
 child-evaluable k {t} {e} {at} here few near =
     let near′ : at + 2 * operations e ≤ farthest = omega arith in
@@ -170,7 +176,8 @@ module _ {bytes : List ℕ} {base : ℕ} {lists : List ℕ} {node : ℕ} {values
       record {
         e = b .0;
         is = statement-of (b .1);
-        child = child-at bytes (h .inner .known .program) (h .inner .known .checked) node (nodeAt bytes node .a) (expression (typeOf (typesOf bytes) (nodeAt bytes node .tag)) (b .0)) (b .2);
+        child = child-at bytes (h .inner .known .program) (h .inner .known .checked) node (nodeAt bytes node .a)
+            (expression (typeOf (typesOf bytes) (nodeAt bytes node .tag)) (b .0)) (b .2);
         low = b .3;
       }
 
@@ -196,7 +203,8 @@ module _ {bytes : List ℕ} {base : ℕ} {lists : List ℕ} {node : ℕ} {values
       evaluated = answer _ (as-assign .e) assigned-here
 
       pub assign-answer : {x : ℤ} {end : ℕ} → a ≡ Value x end → mag x < 9_223_372_036_854_775_808 → {v : ℕ} → v ≡ nodeRead bytes base node .tag
-          → (r : Ran) → r .outcome ≡ Accepted → r .store .values ≡ set values v (toZ w64 (ofZ w64 x)) → r .left ≡ left → r .at ≡ end → PartsTo bytes node values left r out at after
+          → (r : Ran) → r .outcome ≡ Accepted → r .store .values ≡ set values v (toZ w64 (ofZ w64 x)) → r .left ≡ left → r .at ≡ end
+          → PartsTo bytes node values left r out at after
       unfolding inside
       assign-answer {x} {end} e fits {v} tag r accepts stores leaves ends =
           let g : Got (evaluate (as-assign .e) values) x end out at after = got (evaluate (as-assign .e) values) x end out at after evaluated e in
@@ -209,7 +217,8 @@ module _ {bytes : List ℕ} {base : ℕ} {lists : List ℕ} {node : ℕ} {values
             lays = g .lays;
           }))
 
-      pub assign-refused : {q : Refusal} → a ≡ Stopped q → (r : Ran) → r .outcome ≡ Refused q → (out′ after′ : List ℤ) → PartsTo bytes node values left r out′ at after′
+      pub assign-refused : {q : Refusal} → a ≡ Stopped q → (r : Ran) → r .outcome ≡ Refused q → (out′ after′ : List ℤ)
+          → PartsTo bytes node values left r out′ at after′
       unfolding inside
       assign-refused {q} e r f out′ after′ = for-parts (h .inner .known) (as-assign .is) left r out′ at after′
           (evaluation-refused (evaluate (as-assign .e) values) _ q r out out′ left at at after after′ evaluated e f)

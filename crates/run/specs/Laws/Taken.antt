@@ -58,7 +58,8 @@ pub record AsIf (bytes : List ℕ) (node : ℕ) (tree : Statement) : Type 0 wher
 abbrev pub takenNode : List ℕ → ℕ → Bool → ℕ
 takenNode bytes node b = choose b (nodeAt bytes node .b) (nodeAt bytes node .c)
 
-module _ {bytes : List ℕ} {base : ℕ} {lists : List ℕ} {node : ℕ} {values : List ℤ} (k : Known bytes base lists node values) (kinded : nodeAt bytes node .kind ≡ 19) where
+module _ {bytes : List ℕ} {base : ℕ} {lists : List ℕ} {node : ℕ} {values : List ℤ} (k : Known bytes base lists node values)
+    (kinded : nodeAt bytes node .kind ≡ 19) where
   open Known k using (program, checked, tree, small, fine)
 
   pub as-if : AsIf bytes node (k .tree)
@@ -107,18 +108,21 @@ module _ {bytes : List ℕ} {base : ℕ} {lists : List ℕ} {node : ℕ} {values
 
 -- what is to be shown of a statement that is an if
 abbrev Took : ℤ → List ℤ → Ran → List ℤ → ℕ → ℕ → ℕ → List ℤ → Statement → Type 0
-Took z values r out left after at final (Statement.if n e s t) = TookAs (mentions (Statement.if n e s t)) (choose (holds z) (run s) (run t) left values) r out left after at final
+Took z values r out left after at final (Statement.if n e s t) = TookAs (mentions (Statement.if n e s t))
+    (choose (holds z) (run s) (run t) left values) r out left after at final
 Took z values r out left after at final (Statement.skip n) = Unit {0}
 Took z values r out left after at final (Statement.assign n v e) = Unit {0}
 Took z values r out left after at final (Statement.sequence n s t) = Unit {0}
 Took z values r out left after at final (Statement.repeat n e s) = Unit {0}
 
-took-refused : (vs : List ℕ) (m : Paper.Outcome Done) (r : Ran) (q : Refusal) (out one final : List ℤ) (left after at : ℕ) → RanAs m r out left at one → r .outcome ≡ Refused q
+took-refused : (vs : List ℕ) (m : Paper.Outcome Done) (r : Ran) (q : Refusal) (out one final : List ℤ) (left after at : ℕ) → RanAs m r out left at one
+    → r .outcome ≡ Refused q
     → TookAs vs m r out left after at final
 took-refused vs (accepted d) r q out one final left after at h e = absurd (accepted-refused (sym (h .accepts) ∙ e))
 took-refused vs (refused p) r q out one final left after at h e = h
 
-module _ {bytes : List ℕ} {base : ℕ} {lists : List ℕ} {node : ℕ} {values : List ℤ} {left after at : ℕ} (h : Takeable bytes base lists node values left after at) (z : ℤ) where
+module _ {bytes : List ℕ} {base : ℕ} {lists : List ℕ} {node : ℕ} {values : List ℤ} {left after at : ℕ}
+    (h : Takeable bytes base lists node values left after at) (z : ℤ) where
   abbrev its : AsIf bytes node (h .known .tree)
   its = as-if (h .known) (h .kinded)
 
@@ -149,7 +153,8 @@ module _ {bytes : List ℕ} {base : ℕ} {lists : List ℕ} {node : ℕ} {values
       ran-branch = p branch branch-here
 
       -- what is shown of the branch's run is shown of the if
-      whole : TookAs (mentions (Statement.if node (its .e) (its .s) (its .t))) (run branch left values) r out left after at final → TakesTo bytes node z values left r out after at final
+      whole : TookAs (mentions (Statement.if node (its .e) (its .s) (its .t))) (run branch left values) r out left after at final
+          → TakesTo bytes node z values left r out after at final
       whole w n e s t here = for-statement (h .known) (Took z values r out left after at final)
           (subst (Took z values r out left after at final) (sym (its .is))
           (subst (λ (m : Paper.Outcome Done). TookAs (mentions (Statement.if node (its .e) (its .s) (its .t))) m r out left after at final)
@@ -158,7 +163,8 @@ module _ {bytes : List ℕ} {base : ℕ} {lists : List ℕ} {node : ℕ} {values
       pub take-refused : {q : Refusal} → r .outcome ≡ Refused q → TakesTo bytes node z values left r out after at final
       take-refused {q} e = whole (took-refused _ (run branch left values) r q out one final left after at ran-branch e)
 
-      pub take-answer : r .outcome ≡ Accepted → final ≡ lay one after (snapshot (listAt lists node) (r .store .values)) → TakesTo bytes node z values left r out after at final
+      pub take-answer : r .outcome ≡ Accepted → final ≡ lay one after (snapshot (listAt lists node) (r .store .values))
+          → TakesTo bytes node z values left r out after at final
       take-answer e f =
           let got : RunGot (run branch left values) r out left at one = run-got (run branch left values) r out left at one ran-branch e in
           whole (subst (λ (m : Paper.Outcome Done). TookAs (mentions (Statement.if node (its .e) (its .s) (its .t))) m r out left after at final) (sym (got .comes))
@@ -169,5 +175,6 @@ module _ {bytes : List ℕ} {base : ℕ} {lists : List ℕ} {node : ℕ} {values
             ends = got .ended .ends;
             lays = f
                 ∙ ap (λ (l : List ℤ). lay l after (snapshot (listAt lists node) (r .store .values))) (got .ended .lays)
-                ∙ ap₂ {C = List ℤ} (λ (ws : List ℕ) (vs : List ℤ). lay (lay out at (got .done .words)) after (snapshot ws vs)) (if-variables (h .known) (h .kinded)) (got .ended .stores);
+                ∙ ap₂ {C = List ℤ} (λ (ws : List ℕ) (vs : List ℤ). lay (lay out at (got .done .words)) after (snapshot ws vs))
+                (if-variables (h .known) (h .kinded)) (got .ended .stores);
           }))

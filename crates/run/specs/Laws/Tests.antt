@@ -75,7 +75,8 @@ module _ (bytes : List ℕ) (inputs : List ℤ) (limit : ℤ) where
       unfolding Paper.numberOf
       store-refused e = sym (ap Paper.numberOf (tests-are ∙ ap (λ b. behind p b (between (pos 1) mostSteps limit)) (sym is ∙ e)))
 
-      pub limit-decides : f ≡ true → {l : Bool} → l ≡ between (pos 1) mostSteps limit → Paper.numberOf (tests bytes inputs limit) ≡ Paper.numberOf (need l limitWrong >>= λ u. accepted p)
+      pub limit-decides : f ≡ true → {l : Bool} → l ≡ between (pos 1) mostSteps limit
+          → Paper.numberOf (tests bytes inputs limit) ≡ Paper.numberOf (need l limitWrong >>= λ u. accepted p)
       limit-decides e same = ap Paper.numberOf (tests-are ∙ ap₂ {C = Paper.Outcome Program} (behind p) (sym is ∙ e) (sym same))
 
       pub limit-refused : f ≡ true → {l : Bool} → l ≡ between (pos 1) mostSteps limit → l ≡ false → Tested bytes inputs limit (Refused Limit)

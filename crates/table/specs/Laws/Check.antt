@@ -97,7 +97,8 @@ module _ (bytes : List ℕ) (header : checkHeader bytes ≡ accepted tt) where
 
   module _ (n : ℕ) (n-is : n ≡ nodes bytes) (types : checkTypes (typeBytes bytes) ≡ accepted tt) where
     abbrev behind : ℕ → Statement → Outcome Program
-    behind k root = checkUses (k - 1) (children (nodesOf bytes)) >>= λ u. need (leb (depth root) mostDepth) tooDeep >>= λ u. accepted (record { types = typesOf bytes; root = root })
+    behind k root = checkUses (k - 1) (children (nodesOf bytes)) >>= λ u. need (leb (depth root) mostDepth) tooDeep >>= λ u. accepted
+        (record { types = typesOf bytes; root = root })
 
     check-tree : check bytes ≡ (treeOf bytes >>= λ root. behind n root)
     unfolding check treeOf
@@ -129,4 +130,5 @@ module _ (bytes : List ℕ) (header : checkHeader bytes ≡ accepted tt) where
           unfolding mostDepth
           all-accepted h =
               let near : depth (made .root) ≤ 24 = omega (arith, made .depth-is) in
-              accepted-number bytes (record { types = typesOf bytes; root = made .root }) (check-tree ∙ rw (made .is, told-right _ used, le-leb (depth (made .root)) 24 near))
+              accepted-number bytes (record { types = typesOf bytes; root = made .root })
+              (check-tree ∙ rw (made .is, told-right _ used, le-leb (depth (made .root)) 24 near))

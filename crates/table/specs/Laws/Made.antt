@@ -105,7 +105,8 @@ module _ (bytes : List ℕ) (v : ℕ) (count : v ≡ length (typesOf bytes))
   typed-child : n .tag < v → (x : ℕ) (next : Expression → Outcome Part) (s h : ℕ)
       → ((e : Expression) → heightIn (getElem? parts x) ≡ depthOf e → Made (next e) s h)
       → Made (asExpression (typeOf (typesOf bytes) (n .tag)) (getElem? parts x) >>= next) (choose (fieldFits (byte bytes (16 + n .tag)) x sorts) s 3) h
-  typed-child low x next s h step = rw (types (n .tag) low, field-type (typeOf (typesOf bytes) (n .tag)) x sorts) (child (typeOf (typesOf bytes) (n .tag)) x next s h step)
+  typed-child low x next s h step = rw (types (n .tag) low, field-type (typeOf (typesOf bytes) (n .tag)) x sorts)
+      (child (typeOf (typesOf bytes) (n .tag)) x next s h step)
 
   make-made : (k : Kind) → Made (make (typesOf bytes) parts self n k) (sortBy bytes v (form (some k)) n sorts) (tall (form (some k)) n parts)
   unfolding make form sortBy tagFits fieldFits typed depthOf depth

@@ -43,7 +43,8 @@ module _ (bytes : List ℕ) (v n : ℕ) where
 
   pub length-off : (x : ℕ) → x ≡ u16 bytes 12 → (x ≡ 16 + v + 8 * n → ⊥) → false ≡ offsetsFit bytes v n
   unfolding offsetsFit
-  length-off x r e = later (eqb (u16 bytes 8) 16) _ (later (eqb (u16 bytes 10) (16 + v)) _ (here (eqb (u16 bytes 12) (16 + v + 8 * n)) _ (ne-eqb _ _ (λ q. e (r ∙ q)))))
+  length-off x r e = later (eqb (u16 bytes 8) 16) _
+      (later (eqb (u16 bytes 10) (16 + v)) _ (here (eqb (u16 bytes 12) (16 + v + 8 * n)) _ (ne-eqb _ _ (λ q. e (r ∙ q)))))
 
   pub offsets-right : (x : ℕ) → u16 bytes 8 ≡ 16 → u16 bytes 10 ≡ 16 + v → u16 bytes 12 ≡ 16 + v + 8 * n → x ≡ u16 bytes 14 → eqb x 0 ≡ offsetsFit bytes v n
   unfolding offsetsFit
@@ -128,7 +129,8 @@ pub headed : (bytes : List ℕ) (v n : ℕ) → v ≡ u16 bytes 4 → n ≡ u16 
 unfolding variables nodes sizesFit
 headed bytes v n v-is n-is t =
     let all : headerFits bytes v n ≡ true = rw (v-is, n-is) (tells-passed (header-told bytes) ∙ sym (tells-passed t)) in
-    let most : (sizesFit v n && (offsetsFit bytes v n && eqb (length bytes) (16 + v + 8 * n))) ≡ true = and-right (marked bytes) _ (and-right (leb 16 (length bytes)) _ all) in
+    let most : (sizesFit v n && (offsetsFit bytes v n && eqb (length bytes) (16 + v + 8 * n))) ≡ true
+    = and-right (marked bytes) _ (and-right (leb 16 (length bytes)) _ all) in
     let sizes : (leb 1 v && (leb v 32 && (leb 1 n && leb n 512))) ≡ true = and-left (sizesFit v n) _ most in
     let few : (leb v 32 && (leb 1 n && leb n 512)) ≡ true = and-right (leb 1 v) _ sizes in
     let nodes : (leb 1 n && leb n 512) ≡ true = and-right (leb v 32) _ few in

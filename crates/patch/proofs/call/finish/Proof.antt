@@ -78,7 +78,8 @@ outputs-refused-returns c =
 room-refused-returns : tie.Need-returns-2
 room-refused-returns c =
     let k = c .before .before .before .before .before .before in
-    λ h. room-refused h (answer k h) (c .before .refuse2 .result) _ (not-false _ (c .before .before .before .before .before .if1 .left)) (c .before .before .before .if2 .taken) (c .before .refuse2 .ensures)
+    λ h. room-refused h (answer k h) (c .before .refuse2 .result) _ (not-false _ (c .before .before .before .before .before .if1 .left))
+    (c .before .before .before .if2 .taken) (c .before .refuse2 .ensures)
 
 limit-of-requires : tie.Need-limit-of-requires
 limit-of-requires c κs = between-back _ _ _ (search needs) ∙ limited (first (c .before .before .before .before) .pre .rooted .start)

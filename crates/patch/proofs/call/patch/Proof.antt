@@ -22,7 +22,8 @@ refused-returns c =
 returns : tie.Need-returns-2
 returns c =
     let s = c .before .before .before .before .before .before .before .args in
-    patch-answer (s .t .now) (s .old .now) (s .changes .now) (c .before .start .result) (s .out .now) _ (c .before .start .ensures) (c .before .start .kept .1 .1 .1 .0)
+    patch-answer (s .t .now) (s .old .now) (s .changes .now) (c .before .start .result) (s .out .now) _ (c .before .start .ensures)
+    (c .before .start .kept .1 .1 .1 .0)
 
 pub patch-spec : {M : Type 1} → statement M
 patch-spec =

@@ -36,7 +36,8 @@ node : (c : tie.After-pair2) → c .pair2 .result - 1 ≡ nodes (start (counted 
 unfolding nodes
 node c = ap (λ (i : ℕ). i - 1) (c .pair2 .ensures .0)
 
-end : (c : tie.After-visit-arg2) → let s = start (counted (limit (c .before))) in natAbs (kept (at (s .args .old .now) 0)) ≡ natAbs (lengthOf (s .args .old .now))
+end : (c : tie.After-visit-arg2) → let s = start (counted (limit (c .before))) in natAbs (kept (at (s .args .old .now) 0))
+    ≡ natAbs (lengthOf (s .args .old .now))
 unfolding lengthOf
 end c = cast-back (at (start (counted (limit (c .before))) .args .old .now) 0) (search needs)
 
@@ -58,7 +59,8 @@ visit-requires c κs =
     let l = limit n in
     let v = counted l in
     let s = start v in
-    root-visitable (s .pre .start) (s .args .changes .values) (s .pre .whole) (v .pair .result) (l .limit-of .result) (n .pair2 .result - 1) _ (count v) (left l) (node n) (end (c .before))
+    root-visitable (s .pre .start) (s .args .changes .values) (s .pre .whole) (v .pair .result) (l .limit-of .result) (n .pair2 .result - 1) _ (count v)
+    (left l) (node n) (end (c .before))
     (l .before .before .before .mentions .result .lists) (l .before .before .before .mentions .ensures) (omega arith)
 
 returns : tie.Need-returns
@@ -68,7 +70,8 @@ returns c =
     let v = counted l in
     let s = start v in
     λ h.
-    root-visits (h .start) (s .args .changes .values) (h .whole) (v .pair .result) (l .limit-of .result) (n .pair2 .result - 1) _ (count v) (left l) (node n) (end (c .before .before .before))
+    root-visits (h .start) (s .args .changes .values) (h .whole) (v .pair .result) (l .limit-of .result) (n .pair2 .result - 1) _ (count v) (left l) (node n)
+    (end (c .before .before .before))
     (c .before .visit .result) (s .args .out .now) _ (c .before .visit .ensures)
 
 pub rooted-spec : {M : Type 1} → statement M

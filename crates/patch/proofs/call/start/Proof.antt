@@ -37,7 +37,8 @@ abbrev finishable : (v : tie.After-rooted) → v .rooted .result .outcome ≡ Ac
 finishable v goes =
     let m = made v in
     let s = start (m .before) in
-    root-finishable (m .padded .result) (s .pre) (whole m) (v .rooted .result) (s .args .out .now) (v .rooted .last .1 .1 .1 .0) (v .rooted .ensures (root m)) (v .rooted .kept .1 .1 .1 .0) goes
+    root-finishable (m .padded .result) (s .pre) (whole m) (v .rooted .result) (s .args .out .now) (v .rooted .last .1 .1 .1 .0)
+    (v .rooted .ensures (root m)) (v .rooted .kept .1 .1 .1 .0) goes
 
 -- ---- the needs
 
@@ -51,7 +52,8 @@ refused-returns c =
     let v = o .before .before .before in
     let m = made v in
     let s = start (m .before) in
-    root-refused (m .padded .result) (s .pre) (whole m) (v .rooted .result) (s .args .out .now) (v .rooted .last .1 .1 .1 .0) (v .rooted .ensures (root m)) (v .rooted .kept .1 .1 .1 .0)
+    root-refused (m .padded .result) (s .pre) (whole m) (v .rooted .result) (s .args .out .now) (v .rooted .last .1 .1 .1 .0) (v .rooted .ensures (root m))
+    (v .rooted .kept .1 .1 .1 .0)
     (o .outcome .given .0 .0) (o .outcome .given .1) (c .before .refuse .result) (c .before .refuse .last .0) (c .before .refuse .ensures)
 
 returns : tie.Need-returns-2
@@ -59,7 +61,8 @@ returns c =
     let e = c .before .before .before in
     let v = e .before .before .before in
     let s = start (made v .before) .args in
-    subst (λ (n : ℕ). PatchAnswers (s .t .now) (s .old .now) (s .changes .now) n (c .before .finish .result) (c .before .finish .last .1 .1 .1 .1 .0)) (v .rooted .kept .1 .1 .1 .0)
+    subst (λ (n : ℕ). PatchAnswers (s .t .now) (s .old .now) (s .changes .now) n (c .before .finish .result) (c .before .finish .last .1 .1 .1 .1 .0))
+    (v .rooted .kept .1 .1 .1 .0)
     (c .before .finish .ensures (finishable v (e .enum-told .given .1)))
 
 pub start-spec : {M : Type 1} → statement M

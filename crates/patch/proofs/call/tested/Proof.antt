@@ -57,11 +57,13 @@ count : (c : tie.After-pair) → c .pair .result ≡ variables (start (checked (
 count c = count-is (start (checked (c .before .before .before)) .args .t .now) (c .pair .ensures .0)
 
 -- what the code is told of the changes
-answer : (c : tie.After-legal) → let s = start (checked (c .before .before .before .before .before)) in c .legal .result ≡ legal (typesOf (s .args .t .now)) (inputsOf (typesOf (s .args .t .now)) (s .args .old .now)) (s .args .changes .now)
+answer : (c : tie.After-legal) → let s = start (checked (c .before .before .before .before .before)) in c .legal .result
+    ≡ legal (typesOf (s .args .t .now)) (inputsOf (typesOf (s .args .t .now)) (s .args .old .now)) (s .args .changes .now)
 answer c =
     let k = c .before .before .before .before .before in
     let s = start (checked k) in
-    c .legal .ensures ∙ ap (λ (ws : List ℤ). legal (typesOf (s .args .t .now)) ws (s .args .changes .now)) (inputs-are (size k) (s .args .old .now) (count (c .before .before)))
+    c .legal .ensures ∙ ap (λ (ws : List ℤ). legal (typesOf (s .args .t .now)) ws (s .args .changes .now))
+    (inputs-are (size k) (s .args .old .now) (count (c .before .before)))
 
 -- ---- the needs
 

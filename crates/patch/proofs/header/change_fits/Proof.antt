@@ -44,7 +44,8 @@ number-returns c =
 truth-returns : tie.Need-returns-3
 truth-returns c =
     let s = c .before .before in
-    c .within2 .ensures ∙ between-back _ _ (s .args .change) (s .fits .change) ∙ change-truth (s .args .kind) (s .args .input) (s .args .change) (s .pre) (c .before .if1 .left)
+    c .within2 .ensures ∙ between-back _ _ (s .args .change) (s .fits .change)
+    ∙ change-truth (s .args .kind) (s .args .input) (s .args .change) (s .pre) (c .before .if1 .left)
 
 pub change-fits-spec : {M : Type 1} → statement M
 change-fits-spec =

@@ -62,11 +62,13 @@ count p = count-is (bytes p) (p .pair .ensures .0)
 longs : (c : tie.Else1) → let p = count₁ c in true ≡ leb (3 + 2 * variables (bytes p)) (length (old p))
 longs c = let p = count₁ c in long-enough (start p .pre) (old p) (count p) (c .if1 .left)
 
-sizes : (c : tie.After-within) → let p = count₁ (c .before .before) in c .within .result ≡ between (pos (3 + 2 * variables (bytes p))) (pos (length (old p))) (at (old p) 0)
+sizes : (c : tie.After-within) → let p = count₁ (c .before .before) in c .within .result
+    ≡ between (pos (3 + 2 * variables (bytes p))) (pos (length (old p))) (at (old p) 0)
 sizes c =
     let p = count₁ (c .before .before) in
     c .within .ensures
-    ∙ between-as (toZ-pos w64 (3 + 2 * p .pair .result) (omega (arith, p .pair .ensures .1)) ∙ ap (λ (i : ℕ). pos (3 + 2 * i)) (count p)) (toZ-pos w64 _ (omega arith)) (toZ-ofZ w64 _ (search needs))
+    ∙ between-as (toZ-pos w64 (3 + 2 * p .pair .result) (omega (arith, p .pair .ensures .1)) ∙ ap (λ (i : ℕ). pos (3 + 2 * i)) (count p))
+    (toZ-pos w64 _ (omega arith)) (toZ-ofZ w64 _ (search needs))
 
 limits : (c : tie.After-in-limits) → c .in-limits .result ≡ between (pos 1) mostSteps (at (old (count₂ (c .before .before))) 1)
 limits c = c .in-limits .ensures ∙ between-back _ _ _ (search needs)
@@ -111,7 +113,8 @@ steps-returns c =
     let e = c .before .before .before .before in
     let d = bounded e in
     let p = count₃ e in
-    header-by (start p .pre) (old p) true true true false _ _ (longs (sliced d)) (sized d) (limited e) (sym (not-true _ (c .if4 .taken)) ∙ steps (c .before)) refl refl
+    header-by (start p .pre) (old p) true true true false _ _ (longs (sliced d)) (sized d) (limited e)
+    (sym (not-true _ (c .if4 .taken)) ∙ steps (c .before)) refl refl
 
 inputs-returns : tie.Need-returns-5
 inputs-returns c =
@@ -119,7 +122,8 @@ inputs-returns c =
     let e = fueled g in
     let d = bounded e in
     let p = count₄ g in
-    header-by (start p .pre) (old p) true true true true false _ (longs (sliced d)) (sized d) (limited e) (stepped g) (sym (not-true _ (c .if5 .taken)) ∙ inputs (c .before)) refl
+    header-by (start p .pre) (old p) true true true true false _ (longs (sliced d)) (sized d) (limited e) (stepped g)
+    (sym (not-true _ (c .if5 .taken)) ∙ inputs (c .before)) refl
 
 returns : tie.Need-returns-6
 returns c =
@@ -128,7 +132,8 @@ returns c =
     let e = fueled g in
     let d = bounded e in
     let p = count₄ g in
-    header-by (start p .pre) (old p) true true true true true (c .fits3 .result) (longs (sliced d)) (sized d) (limited e) (stepped g) (sym (not-false _ (k .if5 .left)) ∙ inputs (k .before))
+    header-by (start p .pre) (old p) true true true true true (c .fits3 .result) (longs (sliced d)) (sized d) (limited e) (stepped g)
+    (sym (not-false _ (k .if5 .left)) ∙ inputs (k .before))
     (c .fits3 .ensures ∙ ap (fit (typesOf (bytes p))) (outputs-are (start p .pre) (old p) (count p)))
 
 pub header-fits-spec : {M : Type 1} → statement M

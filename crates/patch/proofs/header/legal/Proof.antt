@@ -45,7 +45,8 @@ each h = inputs-long (start h .pre .0) (start h .args .inputs .now) (start h .pr
 
 -- what a turn is told of its change
 answer : (c : tie.After-change-fits Inv-loop μ-loop)
-    → legalChange (typeBy (start (head c) .args .t .now) (head c .loop .i)) (at (start (head c) .args .inputs .now) (head c .loop .i)) (at (start (head c) .args .changes .now) (head c .loop .i)) ≡ c .change-fits .result
+    → legalChange (typeBy (start (head c) .args .t .now) (head c .loop .i)) (at (start (head c) .args .inputs .now) (head c .loop .i))
+    (at (start (head c) .args .changes .now) (head c .loop .i)) ≡ c .change-fits .result
 answer c =
     sym (c .change-fits .ensures ∙ ap₂ {C = Bool} (legalChange (typeBy (start (head c) .args .t .now) (head c .loop .i))) (toZ-ofZ w64 _ (search needs)) (toZ-ofZ w64 _ (search needs)))
 
@@ -77,7 +78,8 @@ returns : tie.Need-returns-3 Inv-loop μ-loop
 returns c =
     let s = start (c .before) in
     let all = count (c .before .before .before) in
-    legal-all (s .pre .0) (s .args .inputs .now) (s .pre .1) (s .args .changes .now) (c .before .before .if1 .left ∙ all) (λ k below. c .before .loop .inv .1 k (omega arith))
+    legal-all (s .pre .0) (s .args .inputs .now) (s .pre .1) (s .args .changes .now) (c .before .before .if1 .left ∙ all)
+    (λ k below. c .before .loop .inv .1 k (omega arith))
 
 pub legal-spec : {M : Type 1} → statement M
 legal-spec =

@@ -32,7 +32,8 @@ value c = read-node (start c .pre .known) (λ n. n .a) (c .child-a .ensures)
 changed : (c : tie.After-known-told2)
     → let x = shift-of c in
     let s = start (child-of x) in
-    Got (its (s .pre) .e) (shifts (s .pre)) (s .args .old .now) (s .args .reached .from) (s .args .end) (c .before .result2 .given .0 .0) (c .before .result2 .given .0 .1 .0)
+    Got (its (s .pre) .e) (shifts (s .pre)) (s .args .old .now) (s .args .reached .from) (s .args .end) (c .before .result2 .given .0 .0)
+    (c .before .result2 .given .0 .1 .0)
     (s .args .out .now) (s .args .reached .at) (laid x)
 changed c =
     let x = shift-of c in
@@ -67,14 +68,16 @@ refused-returns c =
     let t = c .before .before in
     let x = t .before .before .before in
     let s = start (child-of x) in
-    assign-refused (s .pre) (value (child-of x)) (x .shift .result) (s .args .out .now) (laid x) (x .shift .ensures) (t .result .given .1) (c .stopped .result) (c .stopped .ensures) _
+    assign-refused (s .pre) (value (child-of x)) (x .shift .result) (s .args .out .now) (laid x) (x .shift .ensures) (t .result .given .1)
+    (c .stopped .result) (c .stopped .ensures) _
 
 returns : tie.Need-returns-3
 returns c =
     let g = c .before in
     let e = g .before in
     let s = start (child-of (shift-of (e .before))) in
-    assign-answer (s .pre) (changed (e .before)) (e .if1 .left) (read-node (s .pre .known) (λ n. n .tag) (g .tag .ensures)) (c .assigned .result) (c .assigned .ensures)
+    assign-answer (s .pre) (changed (e .before)) (e .if1 .left) (read-node (s .pre .known) (λ n. n .tag) (g .tag .ensures)) (c .assigned .result)
+    (c .assigned .ensures)
 
 pub assign-spec : {M : Type 1} → statement M
 assign-spec =

@@ -33,12 +33,14 @@ shrunk-requires c κs =
 shrunk-returns : tie.Need-returns
 shrunk-returns c =
     let s = c .before .before .before in
-    ended-shrunk (s .pre) (s .args .was - s .args .next) (s .args .next - s .args .was) (omega arith) (omega arith) (c .shrunk .result) (s .args .out .now) (c .shrunk .ensures)
+    ended-shrunk (s .pre) (s .args .was - s .args .next) (s .args .next - s .args .was) (omega arith) (omega arith) (c .shrunk .result) (s .args .out .now)
+    (c .shrunk .ensures)
 
 broken-returns : tie.Need-returns-2
 broken-returns c =
     let s = start (c .before .before .before) in
-    ended-broken (s .pre) (s .args .was - s .args .next) (s .args .next - s .args .was) (omega arith) (c .before .if2 .taken) (c .stopped .result) (s .args .out .now) (c .stopped .ensures)
+    ended-broken (s .pre) (s .args .was - s .args .next) (s .args .next - s .args .was) (omega arith) (c .before .if2 .taken) (c .stopped .result)
+    (s .args .out .now) (c .stopped .ensures)
 
 grown-requires : tie.Need-grown-requires
 grown-requires c κs =
@@ -50,7 +52,8 @@ grown-returns : tie.Need-returns-3
 grown-returns c =
     let e = c .before .before .before .before in
     let s = start (stays e) in
-    ended-grown (s .pre) (s .args .was - s .args .next) (s .args .next - s .args .was) (omega arith) (e .if2 .left) (c .before .grown .result) (s .args .out .now) _ (c .before .grown .ensures)
+    ended-grown (s .pre) (s .args .was - s .args .next) (s .args .next - s .args .was) (omega arith) (e .if2 .left) (c .before .grown .result)
+    (s .args .out .now) _ (c .before .grown .ensures)
 
 returns : tie.Need-returns-4
 returns c =

@@ -80,7 +80,8 @@ freshened-requires c κs =
     let r = ran g in
     let b = begun (chosen r) in
     let h = start (wide b) .pre .0 in
-    flip-settles h (b .started .ensures) (turned h (chosen r .taken .ensures)) (r .statement .result) _ _ _ (r .statement .ensures) (g .enum-told .given .1) (wide b .width .ensures .0)
+    flip-settles h (b .started .ensures) (turned h (chosen r .taken .ensures)) (r .statement .result) _ _ _ (r .statement .ensures) (g .enum-told .given .1)
+    (wide b .width .ensures .0)
 
 refused-returns : tie.Need-returns
 refused-returns c =
@@ -99,8 +100,10 @@ returns c =
     let b = begun (chosen r) in
     let s = start (wide b) in
     flip-answer (s .pre .0) (b .started .ensures) (turned (s .pre .0) (chosen r .taken .ensures)) (r .statement .result) (s .args .out .now) (after r) _
-    (r .statement .ensures) (g .enum-told .given .1) (wide b .width .ensures .0) refl (s .args .change) (n .snapshot .last .1 .1 .1 .0) _ (n .snapshot .ensures .0)
-    _ (flip-word (s .pre .0) (s .args .change) (p .plus .result) (s .pre .1) (p .plus .ensures)) (c .before .before .put .ensures) (c .freshened .result) (c .freshened .ensures)
+    (r .statement .ensures) (g .enum-told .given .1) (wide b .width .ensures .0) refl (s .args .change) (n .snapshot .last .1 .1 .1 .0) _
+    (n .snapshot .ensures .0)
+    _ (flip-word (s .pre .0) (s .args .change) (p .plus .result) (s .pre .1) (p .plus .ensures)) (c .before .before .put .ensures) (c .freshened .result)
+    (c .freshened .ensures)
 
 pub flipped-spec : {M : Type 1} → statement M
 flipped-spec =

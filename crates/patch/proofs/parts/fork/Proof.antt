@@ -59,7 +59,8 @@ headless-returns c =
 second-returns : tie.Need-returns-2
 second-returns c =
     let w = c .before .before in
-    second-broken (start (head-of (w .before)) .pre) (first (w .before)) (w .width .ensures .0) (c .before .snapshot-fits .ensures) (not-true _ (c .if2 .taken)) _
+    second-broken (start (head-of (w .before)) .pre) (first (w .before)) (w .width .ensures .0) (c .before .snapshot-fits .ensures)
+    (not-true _ (c .if2 .taken)) _
 
 shift-requires : tie.Need-shift-requires
 shift-requires c κs =

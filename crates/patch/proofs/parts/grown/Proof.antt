@@ -27,20 +27,23 @@ freshened-requires c κs =
     let s = start (begun r) in
     record {
       standing = s .pre .0 .lastly .standing;
-      near = grown-near (s .pre .0) (begun r .started .ensures) (s .args .more) (r .repeat .result) (s .args .out .now) (after r) (r .repeat .ensures) (c .enum-told .given .1);
+      near = grown-near (s .pre .0) (begun r .started .ensures) (s .args .more) (r .repeat .result) (s .args .out .now) (after r) (r .repeat .ensures)
+          (c .enum-told .given .1);
     }
 
 refused-returns : tie.Need-returns
 refused-returns c =
     let r = c .before .before .before .before .before in
     let s = start (begun r) in
-    grown-refused (s .pre .0) (begun r .started .ensures) (s .args .more) (r .repeat .result) (s .args .out .now) (after r) (r .repeat .ensures) (s .pre .1) (c .before .before .outcome .given .1) (c .stopped .result) (c .stopped .ensures)
+    grown-refused (s .pre .0) (begun r .started .ensures) (s .args .more) (r .repeat .result) (s .args .out .now) (after r) (r .repeat .ensures) (s .pre .1)
+    (c .before .before .outcome .given .1) (c .stopped .result) (c .stopped .ensures)
 
 returns : tie.Need-returns-2
 returns c =
     let r = c .before .before .before .before in
     let s = start (begun r) in
-    grown-answer (s .pre .0) (begun r .started .ensures) (s .args .more) (r .repeat .result) (s .args .out .now) (after r) (r .repeat .ensures) (c .before .enum-told .given .1) (s .pre .1) (c .freshened .result) (c .freshened .ensures)
+    grown-answer (s .pre .0) (begun r .started .ensures) (s .args .more) (r .repeat .result) (s .args .out .now) (after r) (r .repeat .ensures)
+    (c .before .enum-told .given .1) (s .pre .1) (c .freshened .result) (c .freshened .ensures)
 
 pub grown-spec : {M : Type 1} → statement M
 grown-spec =

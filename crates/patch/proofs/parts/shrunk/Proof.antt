@@ -38,13 +38,15 @@ broken-returns : tie.Need-returns-2
 broken-returns c =
     let f = c .before .before in
     let w = wide (f .before) in
-    shrunk-broken (start w .pre) (w .width .ensures .0) (room (f .before)) (f .snapshot-fits .result) (f .snapshot-fits .ensures) (not-true _ (c .before .if2 .taken)) (c .stopped2 .result) (c .stopped2 .ensures)
+    shrunk-broken (start w .pre) (w .width .ensures .0) (room (f .before)) (f .snapshot-fits .result) (f .snapshot-fits .ensures)
+    (not-true _ (c .before .if2 .taken)) (c .stopped2 .result) (c .stopped2 .ensures)
 
 settled-requires : tie.Need-settled-requires
 settled-requires c κs =
     let e = begun c in
     let w = wide (read e) in (
-      tail-standing (start w .pre) (w .width .ensures .0) (room (read e)) (e .before .snapshot-fits .result) (e .before .snapshot-fits .ensures) (not-false _ (e .if2 .left)),
+      tail-standing (start w .pre) (w .width .ensures .0) (room (read e)) (e .before .snapshot-fits .result) (e .before .snapshot-fits .ensures)
+          (not-false _ (e .if2 .left)),
       store-near (from-last (start w .pre .lastly) (c .before .before .started .ensures)),
     )
 
@@ -52,7 +54,8 @@ returns : tie.Need-returns-3
 returns c =
     let e = begun (c .before) in
     let w = wide (read e) in
-    shrunk-answer (start w .pre) (w .width .ensures .0) (room (read e)) (e .before .snapshot-fits .result) (e .before .snapshot-fits .ensures) (not-false _ (e .if2 .left))
+    shrunk-answer (start w .pre) (w .width .ensures .0) (room (read e)) (e .before .snapshot-fits .result) (e .before .snapshot-fits .ensures)
+    (not-false _ (e .if2 .left))
     (c .before .before .before .started .ensures) _
     (record { outcome = refl; changes = c .settled .ensures; left = refl; walked = refl; reused = refl; from = refl; at = refl })
 

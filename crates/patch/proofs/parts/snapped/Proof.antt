@@ -38,7 +38,8 @@ returns c =
     let e = c .before .before in
     let p = e .before .before in
     let s = start p in
-    snapped-on (s .pre .0) (s .pre .1) (s .args .out .now) _ _ (p .patch-snapshot .ensures) (not-false _ (e .if1 .left)) _ (c .before .width .ensures .0) (c .advanced .ensures)
+    snapped-on (s .pre .0) (s .pre .1) (s .args .out .now) _ _ (p .patch-snapshot .ensures) (not-false _ (e .if1 .left)) _ (c .before .width .ensures .0)
+    (c .advanced .ensures)
 
 pub snapped-spec : {M : Type 1} → statement M
 snapped-spec =

@@ -70,7 +70,8 @@ loop-again c =
     let list : from + s .args .v - from ≡ s .args .v = omega arith in (
       omega arith,
       c .list-patch .ensures .0,
-      next-handed (s .args .t .now) (s .args .v) (s .args .lists .now) (s .args .old .now) (h .loop .i) (from + s .args .v - from) (h .loop .old) list (h .loop .inv .2) (c .list-patch .ensures .1),
+      next-handed (s .args .t .now) (s .args .v) (s .args .lists .now) (s .args .old .now) (h .loop .i) (from + s .args .v - from) (h .loop .old) list
+          (h .loop .inv .2) (c .list-patch .ensures .1),
     )
 
 returns : tie.Need-returns Inv-loop μ-loop

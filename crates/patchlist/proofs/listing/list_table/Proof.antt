@@ -51,7 +51,8 @@ returns c =
     let e = c .before .before in
     let k = e .before .before in
     let s = k .before .before .before in
-    table-refused (s .args .t .now) (s .args .k) (s .args .behind .now) (s .args .last .now) (k .check .result) (k .check .ensures) (e .enum-told .given .0 .0) (e .enum-told .given .1)
+    table-refused (s .args .t .now) (s .args .k) (s .args .behind .now) (s .args .last .now) (k .check .result) (k .check .ensures)
+    (e .enum-told .given .0 .0) (e .enum-told .given .1)
 
 returns-2 : tie.Need-returns-2
 returns-2 c =

@@ -40,7 +40,8 @@ returns : tie.Need-returns
 returns c =
     let n = c .before .before in
     let s = n .before .before .before in
-    words-wrong (s .args .t .now) (s .args .v) (s .args .k) (s .args .behind .now) (s .args .last .now) (n .word-count .result) (n .word-count .ensures .0) (c .before .if1 .taken)
+    words-wrong (s .args .t .now) (s .args .v) (s .args .k) (s .args .behind .now) (s .args .last .now) (n .word-count .result) (n .word-count .ensures .0)
+    (c .before .if1 .taken)
 
 slice-aggregate-decode : tie.Need-slice-aggregate-decode
 slice-aggregate-decode c = search needs

@@ -54,7 +54,8 @@ refused-returns c =
     let m = c .before .before in
     let p = turned m in
     let s = start (head p) in
-    moves-not (typesOf (s .args .t .now)) (s .args .changes .now) _ _ (whole (s .pre .0)) (s .args .out .now) (s .args .at) _ (head p .loop .i) (read p .its .below)
+    moves-not (typesOf (s .args .t .now)) (s .args .changes .now) _ _ (whole (s .pre .0)) (s .args .out .now) (s .args .at) _ (head p .loop .i)
+    (read p .its .below)
     (moved-outside (read p) (s .args .changes .now) (s .pre .1 .0) (m .moved .ensures) (c .enum-told .given .1))
 
 loop-again : tie.Need-loop-again Inv-loop μ-loop

@@ -20,12 +20,14 @@ refused-returns c =
     let q = c .before .before .before .before in
     let d = q .before .before in
     let s = d .before .before in
-    run-refused (s .args .t .now) (s .args .inputs .now) (s .fits .limit) (q .outcome .given .1) (d .tested .ensures) (c .before .refuse .result) (s .args .out .now) _ (c .before .refuse .ensures) (c .before .refuse .kept .0)
+    run-refused (s .args .t .now) (s .args .inputs .now) (s .fits .limit) (q .outcome .given .1) (d .tested .ensures) (c .before .refuse .result)
+    (s .args .out .now) _ (c .before .refuse .ensures) (c .before .refuse .kept .0)
 
 returns : tie.Need-returns-2
 returns c =
     let s = c .before .before .before .before .before .before .before in
-    run-answer (s .args .t .now) (s .args .inputs .now) (s .fits .limit) (c .before .start .result) (s .args .out .now) _ (c .before .start .ensures) (c .before .start .kept .1 .1 .1 .0)
+    run-answer (s .args .t .now) (s .args .inputs .now) (s .fits .limit) (c .before .start .result) (s .args .out .now) _ (c .before .start .ensures)
+    (c .before .start .kept .1 .1 .1 .0)
 
 pub run-spec : {M : Type 1} → statement M
 run-spec =

@@ -32,11 +32,13 @@ ran c = c .before .before .before
 -- ---- what is known there
 
 begun : (c : tie.After-padded)
-    → Begun (start c .pre) (counted c .pair .result) (c .before .before .before .before .before .pair2 .result - 1) (c .before .before .before .before .limit-of .result) (c .padded .result .values) (c .before .before .before .mentions .result .lists)
+    → Begun (start c .pre) (counted c .pair .result) (c .before .before .before .before .before .pair2 .result - 1)
+    (c .before .before .before .before .limit-of .result) (c .padded .result .values) (c .before .before .before .mentions .result .lists)
 unfolding variables nodes
 begun c =
     let m = c .before .before .before in
-    begins (start c .pre) (start c .fits .limit) (counted c .pair .ensures .0) (m .before .before .pair2 .ensures .0) (m .before .limit-of .ensures) (c .padded .ensures) (m .mentions .ensures)
+    begins (start c .pre) (start c .fits .limit) (counted c .pair .ensures .0) (m .before .before .pair2 .ensures .0) (m .before .limit-of .ensures)
+    (c .padded .ensures) (m .mentions .ensures)
 
 -- ---- the needs
 
@@ -59,26 +61,30 @@ room-returns c =
     let f = c .before .before .before in
     let e = f .before .before in
     let r = ran e in
-    room-refused (start (made r) .pre) (begun (made r)) _ _ _ (r .statement .ensures) (r .statement .kept .1 .1 .1 .1 .1 .1 .0) (e .enum-told .given .1) (f .if1 .taken) (c .before .refuse2 .result) _ (c .before .refuse2 .ensures)
+    room-refused (start (made r) .pre) (begun (made r)) _ _ _ (r .statement .ensures) (r .statement .kept .1 .1 .1 .1 .1 .1 .0) (e .enum-told .given .1)
+    (f .if1 .taken) (c .before .refuse2 .result) _ (c .before .refuse2 .ensures)
 
 complete-requires : tie.Need-complete-requires
 complete-requires c κs =
     let e = c .before .before .before in
     let r = ran e in
-    root-completable (start (made r) .pre) (begun (made r)) _ _ _ (r .statement .ensures) (r .statement .kept .1 .1 .1 .1 .1 .1 .0) (e .enum-told .given .1) (c .before .if1 .left)
+    root-completable (start (made r) .pre) (begun (made r)) _ _ _ (r .statement .ensures) (r .statement .kept .1 .1 .1 .1 .1 .1 .0) (e .enum-told .given .1)
+    (c .before .if1 .left)
 
 refused-returns : tie.Need-returns-2
 refused-returns c =
     let q = c .before .before .before .before in
     let r = q .before .before .before in
-    root-refused (start (made r) .pre) (begun (made r)) _ _ _ (r .statement .ensures) (r .statement .kept .1 .1 .1 .1 .1 .1 .0) (q .outcome .given .1) (c .before .refuse .result) _ (c .before .refuse .ensures)
+    root-refused (start (made r) .pre) (begun (made r)) _ _ _ (r .statement .ensures) (r .statement .kept .1 .1 .1 .1 .1 .1 .0) (q .outcome .given .1)
+    (c .before .refuse .result) _ (c .before .refuse .ensures)
 
 returns : tie.Need-returns-3
 returns c =
     let f = c .before .before .before in
     let e = f .before .before in
     let r = ran e in
-    root-answer (start (made r) .pre) (begun (made r)) _ _ _ (r .statement .ensures) (r .statement .kept .1 .1 .1 .1 .1 .1 .0) (e .enum-told .given .1) (f .if1 .left) (c .before .complete .result) _ (c .before .complete .ensures)
+    root-answer (start (made r) .pre) (begun (made r)) _ _ _ (r .statement .ensures) (r .statement .kept .1 .1 .1 .1 .1 .1 .0) (e .enum-told .given .1)
+    (f .if1 .left) (c .before .complete .result) _ (c .before .complete .ensures)
 
 pub start-spec : {M : Type 1} → statement M
 start-spec =

@@ -46,14 +46,16 @@ limit-returns c =
     let l = c .before in
     let f = fitted l in
     let s = start (f .before) .args in
-    limit-refused (s .t .now) (s .inputs .now) (s .limit) (table-passes (f .before)) (f .fits2 .ensures) (not-false (f .fits2 .result) (l .before .if1 .left)) (limit-told l) (not-true (l .in-limits .result) (c .if2 .taken))
+    limit-refused (s .t .now) (s .inputs .now) (s .limit) (table-passes (f .before)) (f .fits2 .ensures)
+    (not-false (f .fits2 .result) (l .before .if1 .left)) (limit-told l) (not-true (l .in-limits .result) (c .if2 .taken))
 
 returns : tie.Need-returns-4
 returns c =
     let l = c .before in
     let f = fitted l in
     let s = start (f .before) .args in
-    all-passed (s .t .now) (s .inputs .now) (s .limit) (table-passes (f .before)) (f .fits2 .ensures) (not-false (f .fits2 .result) (l .before .if1 .left)) (limit-told l) (not-false (l .in-limits .result) (c .if2 .left))
+    all-passed (s .t .now) (s .inputs .now) (s .limit) (table-passes (f .before)) (f .fits2 .ensures) (not-false (f .fits2 .result) (l .before .if1 .left))
+    (limit-told l) (not-false (l .in-limits .result) (c .if2 .left))
 
 pub tested-spec : {M : Type 1} → statement M
 tested-spec =

@@ -33,7 +33,8 @@ operands-laid c =
     let s = start c in
     two-put (s .args .out .now) (s .args .at) (s .args .x) (s .args .y) (s .pre .0) (s .pre .1 .0) (first c .put .ensures) (second c .put2 .ensures)
 
-result-is : (c : tie.After-compute) (o : Operator) → numberOfKind (operator o) ≡ start c .args .kind → c .compute .result ≡ computedAs o (start c .args .x) (start c .args .y)
+result-is : (c : tie.After-compute) (o : Operator) → numberOfKind (operator o) ≡ start c .args .kind
+    → c .compute .result ≡ computedAs o (start c .args .x) (start c .args .y)
 result-is c o e = let s = start c in c .compute .ensures o e ∙ both-plain (s .args .x) (s .args .y) (s .pre .0) (s .pre .1 .0) (computedAs o)
 
 -- ---- the needs

@@ -60,7 +60,8 @@ returns-2 : tie.Need-returns-2 Inv-loop μ-loop
 returns-2 c =
     let h = head (c .before) in
     let s = start h in
-    fits-not (s .args .t .now) (s .pre) (s .args .inputs .now) (h .loop .i) (omega (arith, count (h .before .before))) (answer (c .before) ∙ not-true _ (c .if2 .taken))
+    fits-not (s .args .t .now) (s .pre) (s .args .inputs .now) (h .loop .i) (omega (arith, count (h .before .before)))
+    (answer (c .before) ∙ not-true _ (c .if2 .taken))
 
 loop-again : tie.Need-loop-again Inv-loop μ-loop
 loop-again c = (omega arith, below-more _ _ (head (c .before) .loop .inv .1) (answer (c .before) ∙ not-false _ (c .if2 .left)))

@@ -40,7 +40,8 @@ loop-again c =
 returns : tie.Need-returns Inv-loop μ-loop
 returns c =
     let ws = take (c .before .before .args .n) (c .before .before .args .words .now) in
-    let long : length ws ≡ c .before .before .args .n = length-take-le (c .before .before .args .n) (c .before .before .args .words .now) (c .before .before .pre .0) in
+    let long : length ws ≡ c .before .before .args .n
+    = length-take-le (c .before .before .args .n) (c .before .before .args .words .now) (c .before .before .pre .0) in
     laid-all (c .before .loop .inv .1) (omega (arith, long, c .loop-test .left)) ∙ laid-padded ws (omega (arith, long, c .before .before .pre .1))
 
 pub padded-spec : {M : Type 1} → statement M

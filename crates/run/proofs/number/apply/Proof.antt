@@ -39,14 +39,16 @@ greater-returns : tie.Need-returns-4
 unfolding apply
 greater-returns c =
     let s = c .before .before .before .before .before in
-    of-kind (λ o. _ ≡ apply o (s .args .x) (s .args .y)) Operator.greater (c .before .if4 .taken) (truth-back _ _ (c .truth .ensures) (greater-plain (s .args .x) (s .args .y) (s .pre .0) (s .pre .1)))
+    of-kind (λ o. _ ≡ apply o (s .args .x) (s .args .y)) Operator.greater (c .before .if4 .taken)
+    (truth-back _ _ (c .truth .ensures) (greater-plain (s .args .x) (s .args .y) (s .pre .0) (s .pre .1)))
 
 equal-returns : tie.Need-returns-5
 unfolding apply
 equal-returns c =
     let e = c .before in
     let s = e .before .before .before .before in
-    last-kind (λ o. _ ≡ apply o (s .args .x) (s .args .y)) (e .before .before .before .if1 .left) (e .before .before .if2 .left) (e .before .if3 .left) (e .if4 .left)
+    last-kind (λ o. _ ≡ apply o (s .args .x) (s .args .y)) (e .before .before .before .if1 .left) (e .before .before .if2 .left) (e .before .if3 .left)
+    (e .if4 .left)
     (truth-back _ _ (c .truth2 .ensures) (equal-plain (s .args .x) (s .args .y) (s .pre .0) (s .pre .1)))
 
 pub apply-spec : {M : Type 1} → statement M

@@ -9,7 +9,8 @@ use borrow.Author.Needs.{needs}
 use Rattle.run.proofs.number.compute.Statement.{statement}
 use Rattle.run.proofs.number.compute.Tie as tie
 
-result-is : (c : tie.After-apply) (o : Operator) → numberOfKind (operator o) ≡ c .before .args .kind → c .apply .result ≡ apply o (c .before .args .x) (c .before .args .y)
+result-is : (c : tie.After-apply) (o : Operator) → numberOfKind (operator o) ≡ c .before .args .kind
+    → c .apply .result ≡ apply o (c .before .args .x) (c .before .args .y)
 result-is c o e = let s = c .before in c .apply .ensures o e ∙ both-plain (s .args .x) (s .args .y) (s .pre .0) (s .pre .1) (apply o)
 
 below-returns : tie.Need-returns

@@ -32,7 +32,8 @@ tag-small c = omega (arith, tag-inside c)
 returns : tie.Need-returns
 returns c =
     let e = evaluated (c .before) in
-    assign-answer (start (read e) .pre) (read e .child-a .ensures) _ _ _ (e .evaluate .ensures) (c .before .before .result .given .1) (omega arith) (c .tag .ensures) _ refl refl refl refl
+    assign-answer (start (read e) .pre) (read e .child-a .ensures) _ _ _ (e .evaluate .ensures) (c .before .before .result .given .1) (omega arith)
+    (c .tag .ensures) _ refl refl refl refl
 
 refused-returns : tie.Need-returns-2
 refused-returns c =

@@ -12,7 +12,8 @@ returns c =
     let second = third .before .before .before in
     let first = second .before .before .before in
     let s = first .before .before .args in
-    three-put (s .out .now) (s .at) (s .node) (s .size) (s .steps) (omega arith) (omega arith) (omega arith) (first .put .ensures) (second .put2 .ensures) (third .put3 .ensures)
+    three-put (s .out .now) (s .at) (s .node) (s .size) (s .steps) (omega arith) (omega arith) (omega arith) (first .put .ensures) (second .put2 .ensures)
+    (third .put3 .ensures)
 
 pub open-spec : {M : Type 1} → statement M
 open-spec =

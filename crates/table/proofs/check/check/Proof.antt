@@ -44,7 +44,8 @@ tree-depth-requires c κs = (sizes-read (c .before .before), types-right c)
 returns-3 : tie.Need-returns-3
 returns-3 c =
     let e = c .before .before in
-    node-refused _ (header-right (e .before .before .before .before)) _ (sizes-read (e .before .before) .n-is) (types-right e) _ (c .before .tree-depth .ensures)
+    node-refused _ (header-right (e .before .before .before .before)) _ (sizes-read (e .before .before) .n-is) (types-right e) _
+    (c .before .tree-depth .ensures)
     (c .if3 .taken)
 
 used-once-requires : tie.Need-used-once-requires
@@ -61,14 +62,16 @@ returns-5 : tie.Need-returns-5
 returns-5 c =
     let d = c .before .before .before in
     let e = d .before .before in
-    depth-refused _ (header-right (e .before .before .before .before)) _ (sizes-read (e .before .before) .n-is) (types-right e) _ (d .before .tree-depth .ensures)
+    depth-refused _ (header-right (e .before .before .before .before)) _ (sizes-read (e .before .before) .n-is) (types-right e) _
+    (d .before .tree-depth .ensures)
     (d .if3 .left) (when (c .before .before .used-once .ensures) (c .before .if4 .left)) (c .if5 .taken)
 
 returns-6 : tie.Need-returns-6
 returns-6 c =
     let d = c .before .before .before in
     let e = d .before .before in
-    all-accepted _ (header-right (e .before .before .before .before)) _ (sizes-read (e .before .before) .n-is) (types-right e) _ (d .before .tree-depth .ensures)
+    all-accepted _ (header-right (e .before .before .before .before)) _ (sizes-read (e .before .before) .n-is) (types-right e) _
+    (d .before .tree-depth .ensures)
     (d .if3 .left) (when (c .before .before .used-once .ensures) (c .before .if4 .left)) (c .if5 .left)
 
 pub check-spec : {M : Type 1} → statement M

@@ -6,7 +6,8 @@ use Rattle.table.proofs.uses.count_node.Statement.{statement}
 use Rattle.table.proofs.uses.count_node.Tie as tie
 
 returns : tie.Need-returns
-returns c = counted-node _ _ _ _ _ _ (c .before .before .before .before .count-field .ensures) (c .before .before .count-field2 .ensures) (c .count-field3 .ensures)
+returns c = counted-node _ _ _ _ _ _ (c .before .before .before .before .count-field .ensures) (c .before .before .count-field2 .ensures)
+    (c .count-field3 .ensures)
 
 pub count-node-spec : {M : Type 1} → statement M
 count-node-spec =

@@ -24,7 +24,8 @@ loop-again c =
     let test = c .before .before .before .before in
     let head = test .before in (
       omega arith,
-      left-less _ _ _ (head .before .before .pre) (head .loop .i) (test .loop-test .taken) _ _ (head .loop .inv .1) _ (c .before .before .before .fields-at .ensures) _
+      left-less _ _ _ (head .before .before .pre) (head .loop .i) (test .loop-test .taken) _ _ (head .loop .inv .1) _
+          (c .before .before .before .fields-at .ensures) _
           (c .before .before .form-of .ensures) (c .count-node .ensures),
     )
 

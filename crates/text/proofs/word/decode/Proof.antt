@@ -45,7 +45,8 @@ loop-again : tie.Need-loop-again Inv-loop μ-loop
 loop-again c =
     let h = c .before .before in
     let s = h .before .before .args in
-    let back : toZ w64 (ofZ w64 (c .word-at .result)) ≡ wordAt (s .bytes .now) (8 * h .loop .i) = read-back (c .word-at .result) (c .word-at .ok) ∙ c .word-at .ensures in
+    let back : toZ w64 (ofZ w64 (c .word-at .result)) ≡ wordAt (s .bytes .now) (8 * h .loop .i)
+    = read-back (c .word-at .result) (c .word-at .ok) ∙ c .word-at .ensures in
     (omega arith, simp length-set (h .loop .inv .1), decoded-more (s .bytes .now) (h .loop .words) (h .loop .i) _ (h .loop .inv .2) (omega arith) back)
 
 same-length : tie.Need-same-length Inv-loop μ-loop

@@ -60,7 +60,8 @@ module _ (t : ℕ) where
       let k = c .before .before .before .before in
       let f = forked k in
       let s = start f in
-      branch-kept (s .pre .1) (f .fork .result) _ _ (f .fork .ensures) (k .before .test2 .given .1) (sym (back k) ∙ ap (toZ w64) (c .before .before .before .if1 .taken)) (c .before .kept .result) _ (c .before .kept .ensures)
+      branch-kept (s .pre .1) (f .fork .result) _ _ (f .fork .ensures) (k .before .test2 .given .1)
+      (sym (back k) ∙ ap (toZ w64) (c .before .before .before .if1 .taken)) (c .before .kept .result) _ (c .before .kept .ensures)
 
   flipped-requires : At lts.Need-flipped-requires
   flipped-requires c κs =
@@ -80,7 +81,8 @@ module _ (t : ℕ) where
       let k = c .before .before .before .before in
       let f = forked k in
       let s = start f in
-      branch-flipped (s .pre .1) (f .fork .result) _ _ (f .fork .ensures) (k .before .test2 .given .1) (λ e. c .before .before .before .if1 .left (ap (ofZ w64) e)) (back k)
+      branch-flipped (s .pre .1) (f .fork .result) _ _ (f .fork .ensures) (k .before .test2 .given .1)
+      (λ e. c .before .before .before .if1 .left (ap (ofZ w64) e)) (back k)
       (c .before .flipped .result) _ (c .before .flipped .ensures)
 
   -- the needs in the order of the code; a name marks one with a thought in it

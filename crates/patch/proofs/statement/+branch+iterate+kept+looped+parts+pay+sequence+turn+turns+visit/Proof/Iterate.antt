@@ -79,7 +79,8 @@ module _ (t : ℕ) where
       let s = start (c .before .before .before) in
       c .times2 .ensures ∙ ap countOf (toZ-ofZ w64 _ (s .fits .new) ∙ s .pre .1 .is)
 
-  stay : (c : At lts.After-least) → c .least .result ≡ min (countOf (start (counted c) .pre .1 .count .head .word)) (countOf (start (counted c) .pre .1 .count .count .change))
+  stay : (c : At lts.After-least) → c .least .result
+      ≡ min (countOf (start (counted c) .pre .1 .count .head .word)) (countOf (start (counted c) .pre .1 .count .count .change))
   stay c = c .least .ensures ∙ ap₂ {C = ℕ} min (was (c .before .before)) (next (c .before))
 
   -- the walk behind the head
@@ -123,7 +124,8 @@ module _ (t : ℕ) where
       let s = start w in
       iterate-refused (s .pre .1) (step (v .before .before)) (body w) (stay l) (v .turns .result) _ _ (v .turns .ensures) (c .enum-told2 .given .1) _
 
-  behind : (c : At lts.After-enum-told) → (least-of (turned c) .least .result ≡ 0 → ⊥) → counted (least-of (turned c)) .width .result ≤ turned c .turns .result .from
+  behind : (c : At lts.After-enum-told) → (least-of (turned c) .least .result ≡ 0 → ⊥)
+      → counted (least-of (turned c)) .width .result ≤ turned c .turns .result .from
   behind c has =
       let v = turned c in
       let l = least-of v in

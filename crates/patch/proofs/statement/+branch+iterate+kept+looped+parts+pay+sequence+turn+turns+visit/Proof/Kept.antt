@@ -65,7 +65,8 @@ module _ (t : ℕ) where
   -- ---- what is known there
 
   -- the condition's word, passed as it is
-  word : (c : At lts.After-condition) → toZ w64 (ofZ w64 (at (c .before .before .args .old .now) (c .before .before .args .reached .from))) ≡ at (c .before .before .args .old .now) (c .before .before .args .reached .from)
+  word : (c : At lts.After-condition) → toZ w64 (ofZ w64 (at (c .before .before .args .old .now) (c .before .before .args .reached .from)))
+      ≡ at (c .before .before .args .old .now) (c .before .before .args .reached .from)
   word c = toZ-ofZ w64 _ (search needs)
 
   -- how many variables the node mentions
@@ -73,12 +74,14 @@ module _ (t : ℕ) where
   wide c = c .width .ensures .0
 
   -- the branch that the condition takes
-  same : (c : At lts.After-taken) → c .taken .result ≡ takenNode (start (c .before) .args .t .now) (start (c .before) .args .node) (holds (start (c .before) .pre .1 .fork .condition))
+  same : (c : At lts.After-taken) → c .taken .result
+      ≡ takenNode (start (c .before) .args .t .now) (start (c .before) .args .node) (holds (start (c .before) .pre .1 .fork .condition))
   same c =
       let s = start (c .before) in
       let k = s .pre .1 .entered .known in
       c .taken .ensures
-      ∙ ap₂ {C = ℕ} (λ (x y : ℕ). choose (holds (toZ w64 (ofZ w64 (at (s .args .old .now) (s .args .reached .from))))) x y) (read-node k (λ n. n .b) refl) (read-node k (λ n. n .c) refl)
+      ∙ ap₂ {C = ℕ} (λ (x y : ℕ). choose (holds (toZ w64 (ofZ w64 (at (s .args .old .now) (s .args .reached .from))))) x y) (read-node k (λ n. n .b) refl)
+      (read-node k (λ n. n .c) refl)
       ∙ ap (λ (z : ℤ). takenNode (s .args .t .now) (s .args .node) (holds z)) (word (c .before .before) ∙ sym (forked-at (s .pre .1) .condition))
 
   -- the walk behind the head
@@ -107,16 +110,19 @@ module _ (t : ℕ) where
   standing c =
       let w = took (visited c) .before in
       let s = start w in
-      subst (λ (n : ℕ). Standing (s .args .t .now) (s .args .lists .now) (s .args .node) (s .args .old .now) (s .args .reached .from + 1 + n)) (sym (wide w)) (forked-at (s .pre .1) .second)
+      subst (λ (n : ℕ). Standing (s .args .t .now) (s .args .lists .now) (s .args .node) (s .args .old .now) (s .args .reached .from + 1 + n)) (sym (wide w))
+      (forked-at (s .pre .1) .second)
 
   abbrev MovesAt : (c : At lts.After-move-snapshot) → ℕ → Type 0
   MovesAt c n =
       let v = visited (gone c) in
       let s = start (took v .before) in
       let vs = listAt (s .args .lists .now) (s .args .node) in
-      MovedAs (movedAll (typesOf (s .args .t .now)) vs (olds (s .args .old .now) (s .args .reached .from + 1 + n) vs) (v .visit .result .changes .values)) (c .move-snapshot .result) (v .visit .last .1 .1 .1 .1 .1 .1 .1 .1 .0) (s .args .reached .at + 1 + n) (c .move-snapshot .last .1 .1 .1 .1 .1 .1 .0)
+      MovedAs (movedAll (typesOf (s .args .t .now)) vs (olds (s .args .old .now) (s .args .reached .from + 1 + n) vs) (v .visit .result .changes .values))
+      (c .move-snapshot .result) (v .visit .last .1 .1 .1 .1 .1 .1 .1 .1 .0) (s .args .reached .at + 1 + n) (c .move-snapshot .last .1 .1 .1 .1 .1 .1 .0)
 
-  moves : (c : At lts.After-move-snapshot) → MovesAt c (length (listAt (start (took (visited (gone c)) .before) .args .lists .now) (start (took (visited (gone c)) .before) .args .node)))
+  moves : (c : At lts.After-move-snapshot)
+      → MovesAt c (length (listAt (start (took (visited (gone c)) .before) .args .lists .now) (start (took (visited (gone c)) .before) .args .node)))
   moves c = subst (MovesAt c) (wide (took (visited (gone c)) .before)) (c .move-snapshot .ensures)
 
   -- ---- the needs

@@ -64,7 +64,8 @@ module _ (t : ℕ) where
       let k = c .before .before .before in
       let f = counted k in
       let s = start f in
-      looped-answer (s .pre .1) (f .count .result) _ _ (f .count .ensures) (k .before .counted2 .given .1) (back k) (c .before .iterate .result) _ (c .before .iterate .ensures)
+      looped-answer (s .pre .1) (f .count .result) _ _ (f .count .ensures) (k .before .counted2 .given .1) (back k) (c .before .iterate .result) _
+      (c .before .iterate .ensures)
 
   -- the needs in the order of the code; a name marks one with a thought in it
   pub looped-meets : {M : Type 1} → lts.Closed calls given looped.Post M

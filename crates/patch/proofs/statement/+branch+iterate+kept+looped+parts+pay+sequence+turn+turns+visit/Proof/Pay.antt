@@ -64,7 +64,8 @@ module _ (t : ℕ) where
       let e = c .before .before .before in
       let p = walked e in
       let u = steps p in
-      pay-answer (start u .pre .1) (u .stepped .ensures) (p .parts .result) (start u .args .out .now) _ (p .parts .ensures) (e .enum-told .given .1) (c .before .«open» .last .0) (c .before .«open» .ensures)
+      pay-answer (start u .pre .1) (u .stepped .ensures) (p .parts .result) (start u .args .out .now) _ (p .parts .ensures) (e .enum-told .given .1)
+      (c .before .«open» .last .0) (c .before .«open» .ensures)
 
   -- the needs in the order of the code; a name marks one with a thought in it
   pub pay-meets : {M : Type 1} → lts.Closed calls given pay.Post M

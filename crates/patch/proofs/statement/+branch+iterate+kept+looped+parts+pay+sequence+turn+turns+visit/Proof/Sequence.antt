@@ -76,7 +76,8 @@ module _ (t : ℕ) where
       let v = visited e in
       let a = read-first v in
       let s = start a in
-      sequence-answer (s .pre .1) _ (first a) (v .visit .result) _ _ (v .visit .ensures) (e .enum-told .given .1) _ (read-node (s .pre .1 .known) (λ n. n .b) (b .child-b .ensures))
+      sequence-answer (s .pre .1) _ (first a) (v .visit .result) _ _ (v .visit .ensures) (e .enum-told .given .1) _
+      (read-node (s .pre .1 .known) (λ n. n .b) (b .child-b .ensures))
       (c .before .visit2 .result) _ (c .before .visit2 .ensures)
 
   -- the needs in the order of the code; a name marks one with a thought in it

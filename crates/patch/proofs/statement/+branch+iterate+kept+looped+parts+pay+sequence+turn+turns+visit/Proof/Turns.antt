@@ -59,7 +59,8 @@ module _ (t : ℕ) where
       let v = c .before .before .before in
       let l = head v in
       let s = start l in
-      again-refused (s .pre .1) (s .args .count) _ (l .loop .i) (l .loop .so-far) (l .loop .out) (so-far l) (v .before .before .loop-test .taken) (v .turn .result) _ (v .turn .ensures) (c .enum-told2 .given .1) _
+      again-refused (s .pre .1) (s .args .count) _ (l .loop .i) (l .loop .so-far) (l .loop .out) (so-far l) (v .before .before .loop-test .taken)
+      (v .turn .result) _ (v .turn .ensures) (c .enum-told2 .given .1) _
 
   again : At lts.Need-loop-again
   again c =

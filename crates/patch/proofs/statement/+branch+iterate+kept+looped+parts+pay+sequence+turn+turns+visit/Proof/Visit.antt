@@ -46,7 +46,8 @@ module _ (t : ℕ) where
   broken-returns c =
       let m = c .before .before .before in
       let s = start m in
-      visit-broken (s .args .last) (s .pre .1) (m .meet .result) (m .meet .ensures) (c .before .enum-told .given .1) (c .stopped .result) (c .stopped .ensures) _ _
+      visit-broken (s .args .last) (s .pre .1) (m .meet .result) (m .meet .ensures) (c .before .enum-told .given .1) (c .stopped .result)
+      (c .stopped .ensures) _ _
 
   skip-requires : At lts.Need-skip-requires
   skip-requires c κs =
@@ -60,7 +61,8 @@ module _ (t : ℕ) where
       let k = met u in
       let m = meets k in
       let s = start m in
-      visit-skipped (s .args .last) (s .pre .1) (m .meet .result) (m .meet .ensures) (k .before .met .given .1) (u .unchanged .ensures) (c .before .skip .result) _ _
+      visit-skipped (s .args .last) (s .pre .1) (m .meet .result) (m .meet .ensures) (k .before .met .given .1) (u .unchanged .ensures)
+      (c .before .skip .result) _ _
       (c .before .before .before .if1 .taken) (c .before .skip .ensures)
 
   pay-requires : At lts.Need-pay-requires
@@ -77,7 +79,8 @@ module _ (t : ℕ) where
       let k = met u in
       let m = meets k in
       let s = start m in
-      visit-paid (s .args .last) (s .pre .1) (m .meet .result) (m .meet .ensures) (k .before .met .given .1) (u .unchanged .ensures) (c .before .pay .result) _ _
+      visit-paid (s .args .last) (s .pre .1) (m .meet .result) (m .meet .ensures) (k .before .met .given .1) (u .unchanged .ensures)
+      (c .before .pay .result) _ _
       (c .before .before .before .if1 .left) (c .before .pay .ensures)
 
   -- the needs in the order of the code; a name marks one with a thought in it

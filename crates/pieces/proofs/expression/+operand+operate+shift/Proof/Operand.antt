@@ -39,7 +39,8 @@ module _ (t : ℕ) where
   -- ---- what is known there
 
   change : (c : At lts.After-shifted)
-      → Change (start (answered c) .pre .1 .0) (c .shifted .given .0 .0) (c .shifted .given .0 .1 .0) (start (answered c) .args .out .now) (answered c .shift .last .1 .1 .1 .1 .1 .1 .1 .0)
+      → Change (start (answered c) .pre .1 .0) (c .shifted .given .0 .0) (c .shifted .given .0 .1 .0) (start (answered c) .args .out .now)
+      (answered c .shift .last .1 .1 .1 .1 .1 .1 .1 .0)
   change c = let p = answered c in change-got (start p .pre .1 .0) (p .shift .result) _ _ (p .shift .ensures) (c .shifted .given .1)
 
   -- ---- the needs

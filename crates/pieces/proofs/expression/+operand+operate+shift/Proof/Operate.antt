@@ -95,7 +95,8 @@ module _ (t : ℕ) where
 
   right : (c : At lts.After-right)
       → let l = left-taken (right-ran c) in
-      Right (operating (start (left-ran l))) (l .left .given .0 .1 .0) (c .right .given .0 .0) (c .right .given .0 .1 .0) (left-laid (left-ran l)) (right-laid (right-ran c))
+      Right (operating (start (left-ran l))) (l .left .given .0 .1 .0) (c .right .given .0 .0) (c .right .given .0 .1 .0) (left-laid (left-ran l))
+      (right-laid (right-ran c))
   right c =
       let p = right-ran c in
       let l = left-taken p in
@@ -130,7 +131,8 @@ module _ (t : ℕ) where
   right-returns c =
       let p = c .before .before .before in
       let l = left-taken p in
-      right-refused (operating (start (left-ran l))) (left l) (right-node (p .before .before)) (p .operand2 .result) _ (p .operand2 .ensures) _ (c .enum-told2 .given .1)
+      right-refused (operating (start (left-ran l))) (left l) (right-node (p .before .before)) (p .operand2 .result) _ (p .operand2 .ensures) _
+      (c .enum-told2 .given .1)
 
   length-fits : At lts.Need-add-settle-2
   length-fits c = let r = right-taken (c .before) in omega (arith, right r .room, first (c .before) .fits .end .fits)

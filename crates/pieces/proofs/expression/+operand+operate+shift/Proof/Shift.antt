@@ -76,7 +76,8 @@ module _ (t : ℕ) where
   variable-returns c =
       let v = c .before in
       let s = start (of-variable v) in
-      variable-shift (s .pre .1) (s .args .out .now) _ (variable-here v) (near-kept _ (s .pre .1 .near (v .tag .result)) ∙ ap (at (s .args .changes .now)) (tag-here v))
+      variable-shift (s .pre .1) (s .args .out .now) _ (variable-here v)
+      (near-kept _ (s .pre .1 .near (v .tag .result)) ∙ ap (at (s .args .changes .now)) (tag-here v))
 
   broken-returns : At lts.Need-returns-3
   broken-returns c =

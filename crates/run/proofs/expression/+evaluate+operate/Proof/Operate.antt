@@ -47,16 +47,20 @@ module _ (t : ℕ) where
   -- ---- what is known there
 
   left-value : (c : At lts.After-known-told)
-      → GotLeft (start (left-ran c) .pre .1 .0) (start (left-ran c) .pre .1 .1) (c .before .left .given .0 .0) (c .before .left .given .0 .1 .0) (start (left-ran c) .args .out .now) (left-ran c .evaluate .last .1 .1 .1 .1 .0)
+      → GotLeft (start (left-ran c) .pre .1 .0) (start (left-ran c) .pre .1 .1) (c .before .left .given .0 .0) (c .before .left .given .0 .1 .0)
+      (start (left-ran c) .args .out .now) (left-ran c .evaluate .last .1 .1 .1 .1 .0)
   left-value c =
       let e = left-ran c in
-      got-left (start e .pre .1 .0) (start e .pre .1 .1) (e .before .before .child-a .ensures) (e .evaluate .result) _ _ (e .evaluate .ensures) (c .before .left .given .1)
+      got-left (start e .pre .1 .0) (start e .pre .1 .1) (e .before .before .child-a .ensures) (e .evaluate .result) _ _ (e .evaluate .ensures)
+      (c .before .left .given .1)
 
   right-value : (c : At lts.After-known-told2)
-      → GotRight _ _ (left-value (left-told (right-ran c))) (c .before .right .given .0 .0) (c .before .right .given .0 .1 .0) (right-ran c .evaluate2 .last .1 .1 .1 .1 .0)
+      → GotRight _ _ (left-value (left-told (right-ran c))) (c .before .right .given .0 .0) (c .before .right .given .0 .1 .0)
+      (right-ran c .evaluate2 .last .1 .1 .1 .1 .0)
   right-value c =
       let e = right-ran c in
-      got-right _ _ (left-value (left-told e)) (e .before .before .child-b .ensures) (e .evaluate2 .result) _ (e .evaluate2 .ensures) (c .before .right .given .1)
+      got-right _ _ (left-value (left-told e)) (e .before .before .child-b .ensures) (e .evaluate2 .result) _ (e .evaluate2 .ensures)
+      (c .before .right .given .1)
 
   -- ---- the needs
 
@@ -72,7 +76,8 @@ module _ (t : ℕ) where
   left-returns : At lts.Need-returns
   left-returns c =
       let e = c .before .before .before in
-      left-refused (start e .pre .1 .0) (start e .pre .1 .1) (e .before .before .child-a .ensures) (e .evaluate .result) _ _ (e .evaluate .ensures) (c .enum-told .given .1) _ _
+      left-refused (start e .pre .1 .0) (start e .pre .1 .1) (e .before .before .child-a .ensures) (e .evaluate .result) _ _ (e .evaluate .ensures)
+      (c .enum-told .given .1) _ _
 
   right-requires : At lts.Need-evaluate-requires-2
   right-requires c κs =
@@ -83,7 +88,8 @@ module _ (t : ℕ) where
   right-returns : At lts.Need-returns-2
   right-returns c =
       let e = c .before .before .before in
-      right-refused _ _ (left-value (left-told e)) (e .before .before .child-b .ensures) (e .evaluate2 .result) _ (e .evaluate2 .ensures) (c .enum-told2 .given .1) _ _
+      right-refused _ _ (left-value (left-told e)) (e .before .before .child-b .ensures) (e .evaluate2 .result) _ (e .evaluate2 .ensures)
+      (c .enum-told2 .given .1) _ _
 
   finish-requires : At lts.Need-finish-requires
   finish-requires c κs = let r = c .before .before in finishable _ _ (left-value (left-told (right-ran r))) (right-value r)

@@ -50,7 +50,8 @@ module _ (t : ℕ) where
   -- ---- what is known there
 
   test-value : (c : At lts.After-known-told2)
-      → GotTest (start (first c) .pre .1) (first c .snapshot .ensures .1) (c .before .test2 .given .0 .0) (c .before .test2 .given .0 .1 .0) (first c .snapshot .last .1 .1 .1 .0) (evaluated c .evaluate .last .1 .1 .1 .1 .0)
+      → GotTest (start (first c) .pre .1) (first c .snapshot .ensures .1) (c .before .test2 .given .0 .0) (c .before .test2 .given .0 .1 .0)
+      (first c .snapshot .last .1 .1 .1 .0) (evaluated c .evaluate .last .1 .1 .1 .1 .0)
   test-value c =
       let e = evaluated c in
       got-test (start (first c) .pre .1) (first c .snapshot .ensures .1) (read e .child-a .ensures) _ _ _ (e .evaluate .ensures) (c .before .test2 .given .1)
@@ -80,7 +81,8 @@ module _ (t : ℕ) where
       let p = c .before .before .before .before in
       let v = p .before .before in
       let s = first v in
-      branch-answer (start s .pre .1) (s .snapshot .ensures .1) (test-value v) (omega arith) _ _ (s .snapshot .ensures .0) (p .put .ensures) _ _ (c .before .take .ensures)
+      branch-answer (start s .pre .1) (s .snapshot .ensures .1) (test-value v) (omega arith) _ _ (s .snapshot .ensures .0) (p .put .ensures) _ _
+      (c .before .take .ensures)
 
   -- the needs in the order of the code; a name marks one with a thought in it
   pub branch-meets : {M : Type 1} → lts.Closed calls given branch.Post M

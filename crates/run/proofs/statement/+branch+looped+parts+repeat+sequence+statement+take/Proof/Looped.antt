@@ -52,10 +52,12 @@ module _ (t : ℕ) where
   -- ---- what is known there
 
   count-value : (c : At lts.After-known-told2)
-      → GotCount (start (first c) .pre .1) (first c .snapshot .ensures .1) (c .before .counted2 .given .0 .0) (c .before .counted2 .given .0 .1 .0) (first c .snapshot .last .1 .1 .1 .0) (evaluated c .evaluate .last .1 .1 .1 .1 .0)
+      → GotCount (start (first c) .pre .1) (first c .snapshot .ensures .1) (c .before .counted2 .given .0 .0) (c .before .counted2 .given .0 .1 .0)
+      (first c .snapshot .last .1 .1 .1 .0) (evaluated c .evaluate .last .1 .1 .1 .1 .0)
   count-value c =
       let e = evaluated c in
-      got-count (start (first c) .pre .1) (first c .snapshot .ensures .1) (read e .child-a .ensures) _ _ _ (e .evaluate .ensures) (c .before .counted2 .given .1)
+      got-count (start (first c) .pre .1) (first c .snapshot .ensures .1) (read e .child-a .ensures) _ _ _ (e .evaluate .ensures)
+      (c .before .counted2 .given .1)
 
   -- ---- the needs
 
@@ -66,7 +68,8 @@ module _ (t : ℕ) where
   refused-returns c =
       let e = c .before .before .before .before in
       let l = laid (read e) in
-      count-refused (start l .pre .1) (l .snapshot .ensures .1) (read e .child-a .ensures) _ _ _ (e .evaluate .ensures) (c .before .counted .given .1) _ refl _ _
+      count-refused (start l .pre .1) (l .snapshot .ensures .1) (read e .child-a .ensures) _ _ _ (e .evaluate .ensures)
+      (c .before .counted .given .1) _ refl _ _
 
   repeat-requires : At lts.Need-repeat-requires
   repeat-requires c κs =
@@ -84,7 +87,8 @@ module _ (t : ℕ) where
       let p = b .before .before in
       let v = p .before .before in
       let s = first v in
-      loop-answer (start s .pre .1) (s .snapshot .ensures .1) (count-value v) (b .child-b .ensures) (omega arith) _ _ (s .snapshot .ensures .0) (p .put .ensures) (n .times .ensures) _ _ (c .before .repeat .ensures)
+      loop-answer (start s .pre .1) (s .snapshot .ensures .1) (count-value v) (b .child-b .ensures) (omega arith) _ _ (s .snapshot .ensures .0)
+      (p .put .ensures) (n .times .ensures) _ _ (c .before .repeat .ensures)
 
   -- the needs in the order of the code; a name marks one with a thought in it
   pub looped-meets : {M : Type 1} → lts.Closed calls given looped.Post M

@@ -73,7 +73,8 @@ module _ (t : ℕ) where
       let e = c .before .before .before .before .before .before in
       let b = ran e in (
         omega arith,
-        λ h. again-done h (turn b .before .loop .inv .1 h) (turn b .loop-test .taken) _ _ (b .statement .ensures) (e .enum-told .given .1) _ _ (e .enum-told .given .1) refl refl (c .before .snapshot .ensures .1)
+        λ h. again-done h (turn b .before .loop .inv .1 h) (turn b .loop-test .taken) _ _ (b .statement .ensures) (e .enum-told .given .1) _ _
+            (e .enum-told .given .1) refl refl (c .before .snapshot .ensures .1)
             (c .before .snapshot .ensures .0),
       )
 

@@ -41,7 +41,8 @@ module _ (t : ℕ) where
 
   -- ---- what is known there
 
-  first-end : (c : At lts.After-enum-told) → GotFirst (start (ran c) .pre .1) (ran c .statement .result) (start (ran c) .args .out .now) (ran c .statement .last .1 .1 .1 .1 .1 .1 .0)
+  first-end : (c : At lts.After-enum-told)
+      → GotFirst (start (ran c) .pre .1) (ran c .statement .result) (start (ran c) .args .out .now) (ran c .statement .last .1 .1 .1 .1 .1 .1 .0)
   first-end c = let f = ran c in got-first (start f .pre .1) (read-first f .child-a .ensures) _ _ _ (f .statement .ensures) (c .enum-told .given .1)
 
   -- ---- the needs

@@ -39,7 +39,8 @@ module _ (t : ℕ) where
 
   -- ---- what is known there
 
-  parts-end : (c : At lts.After-enum-told) → GotParts (start (ran c) .pre .1) (ran c .parts .result) (start (ran c) .args .out .now) (ran c .parts .last .1 .1 .1 .1 .1 .1 .0)
+  parts-end : (c : At lts.After-enum-told)
+      → GotParts (start (ran c) .pre .1) (ran c .parts .result) (start (ran c) .args .out .now) (ran c .parts .last .1 .1 .1 .1 .1 .1 .0)
   parts-end c = let p = ran c in got-parts (start p .pre .1) _ _ _ (p .parts .ensures) (c .enum-told .given .1)
 
   -- ---- the needs

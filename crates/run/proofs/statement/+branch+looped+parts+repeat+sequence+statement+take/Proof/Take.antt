@@ -53,7 +53,8 @@ module _ (t : ℕ) where
       let e = c .before .before .before .before .before .before in
       let b = e .before .before .before in
       let s = start (chosen b) in
-      take-answer (s .pre .1) (s .args .z) (s .fits .z) (chosen b .taken .ensures) _ _ _ (b .statement .ensures) _ (e .enum-told .given .1) (c .before .snapshot .ensures .0)
+      take-answer (s .pre .1) (s .args .z) (s .fits .z) (chosen b .taken .ensures) _ _ _ (b .statement .ensures) _ (e .enum-told .given .1)
+      (c .before .snapshot .ensures .0)
 
   -- the needs in the order of the code; a name marks one with a thought in it
   pub take-meets : {M : Type 1} → lts.Closed calls given take.Post M
