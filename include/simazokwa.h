@@ -46,8 +46,8 @@
  *     did; refusal 10 says that record_len was too small, and does not say by how much. Lend a larger buffer and
  *     call again. Once there is room, more of it only adds zeros.
  *     Time: a run takes at most `limit` steps, a patch at most the limit of the run that began its record.
- *     Stack: at most 160 KiB, which a patch of a table nested 24 deep comes near; a flat script takes about 40 KiB.
- *     This is measured, not proved. Mind it where calls are made from fibers or small threads.
+ *     Stack: at most 160 KiB. On x86-64 and on Arm a patch of a table nested 24 deep takes up to 134 KiB, and one of a
+ *     flat script up to 42 KiB. This is measured, not proved. Mind it where calls are made from fibers or small threads.
  *
  * What to keep
  *     A record belongs to its table: patch it with the same bytes. It is plain words and may be copied, stored and

@@ -22,9 +22,9 @@
 #include <unistd.h>
 
 #define MOST_WORDS 8192
-#define MOST_BYTES (8 * MOST_WORDS) /* of an area, a multiple of the page size */
+#define MOST_BYTES (8 * MOST_WORDS) /* of an area, a multiple of the page size, be it 4, 16 or 64 KiB */
 #define STACK (1 << 20)      /* of a thread */
-#define MOST_STACK (160 << 10) /* what simazokwa.h says of a call, on x86-64 */
+#define MOST_STACK (160 << 10) /* what simazokwa.h says of a call */
 
 static long line;             /* of the case */
 static const char *stage = ""; /* what is being done with it */
@@ -463,9 +463,7 @@ static size_t most_stack(void)
         size_t taken = deepest(&call, kinds[i]);
         if (most < taken) most = taken;
     }
-#ifdef __x86_64__
     if (most > MOST_STACK) fail("%zu bytes of stack", most);
-#endif
     return most;
 }
 
