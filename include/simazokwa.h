@@ -7,10 +7,10 @@
  *     simazokwa_patch   takes an old record and a change for each input; leaves the new record, and says by how
  *                       much each output changed. What a change does not touch is not run again
  *
- *     From a record that an accepted call left, and with a change list that is not refused with 11, a patch leaves
- *     the record that a run on the new inputs leaves in a buffer of that length, word for word, or is refused with
- *     the same number. That is proved, and so is every word that the three functions return or write; README.md says
- *     what is proved of what, and what is trusted.
+ *     From a record of this table that an accepted call left, and with a change list that is not refused with 11, a
+ *     patch leaves the record that a run on the new inputs leaves, with the record's limit and a buffer of that length,
+ *     word for word, or is refused with the same number. That is proved, and so is every word that the three functions
+ *     return or write; README.md says what is proved of what, and what is trusted.
  *
  * A call
  *     The result is a refusal number, 0 when the call is accepted (enum simazokwa_refusal). Nothing else is
@@ -43,21 +43,28 @@
  *
  * Sizes
  *     A table has at most SIMAZOKWA_MOST_TABLE bytes. How long a record gets depends on the script and on what it
- *     did; refusal 10 says that record_len was too small, and does not say by how much. Lend a larger buffer and
- *     call again. Once there is room, more of it only adds zeros.
+ *     did: the scripts of docs/BENCHMARK.md leave 25 to 420 bytes a step. Run your worst inputs once in a large buffer,
+ *     read SIMAZOKWA_LENGTH, and lend that and a margin. Refusal 10 says that record_len was too small, and does not
+ *     say by how much: lend a longer buffer and call again. Once there is room, more of it only adds zeros; but every
+ *     call writes its whole buffer, so one that is far too long costs time.
  *     Time: a run takes at most `limit` steps, a patch at most the limit of the run that began its record.
- *     Stack: at most 160 KiB. On x86-64 and on Arm a patch of a table nested 24 deep takes up to 134 KiB, and one of a
- *     flat script up to 42 KiB. This is measured, not proved. Mind it where calls are made from fibers or small threads.
+ *     Stack: at most 160 KiB. On x86-64, and on an emulated Arm, a patch of a table nested 24 deep takes up to 134 KiB,
+ *     and one of a flat script up to 42 KiB. This is measured, not proved. Mind it where calls are made from fibers or
+ *     small threads.
  *
  * What to keep
- *     A record belongs to its table: patch it with the same bytes. It is plain words and may be copied, stored and
- *     loaded; the words behind its length (word 0 of it) are not read. A record from elsewhere is safe to hand in:
- *     it is refused with 12 where a patch finds it broken, and else patched as it stands.
- *     After a refused patch the old record is as it was, and the new buffer is all zeros.
+ *     A record belongs to its table: patch it with the same bytes. It is plain words, in the machine's byte order, and
+ *     may be copied, stored and loaded; the words behind its length are not read. Word 0 is that length, word 1 the
+ *     limit, word 2 the steps; then an input for each variable, and an output for each.
+ *     Nothing in a record marks its table. A record of another table, or of an older version of the script, may be
+ *     refused with 12, but may as well be accepted, and its values are then wrong. So store a hash of the table's
+ *     bytes beside a record and compare it before you patch; or store inputs and limit only, and run again on load.
+ *     A record from elsewhere is safe to hand in: it is refused with 12 where a patch finds it broken, and else patched
+ *     as it stands. After a refused patch the old record is as it was, and the new buffer is all zeros.
  *
  * Linking
- *     C or C++, x86-64 Linux: cc game.c target/staticlib/libsimazokwa.a (`rt staticlib simazokwa` makes it). The code
- *     is position-independent, so it may go into a shared library too.
+ *     C or C++, x86-64 Linux: cc game.c target/staticlib/libsimazokwa.a (`rt staticlib simazokwa` makes it). ELF, System
+ *     V calls, no AVX, and no unwind tables. The code is position-independent, so it may go into a shared library too.
  */
 #ifndef SIMAZOKWA_H
 #define SIMAZOKWA_H
@@ -83,7 +90,7 @@ enum simazokwa_refusal {
     SIMAZOKWA_FUEL_SPENT = 9,    /* more steps than the limit */
     SIMAZOKWA_NO_ROOM = 10,      /* the finished record is longer than record_len; nothing else is wrong */
     SIMAZOKWA_BAD_CHANGES = 11,  /* patch: not one change for each variable, a truth's not 0 or 1, or a new input out of range */
-    SIMAZOKWA_BROKEN_RECORD = 12 /* patch: the old record is not one of this table, as far as the patch read it */
+    SIMAZOKWA_BROKEN_RECORD = 12 /* patch: the old record is broken, as far as the patch read it; no test of which table it belongs to */
 };
 
 /* The words of an answer. When the call is refused, all of them but the number are 0. */
@@ -111,6 +118,8 @@ enum simazokwa_sizes {
 /*
  * Values: a number is in -2147483648..2147483647, a truth is 0 or 1, each in a word of its own.
  * Changes: a number's is a signed difference, new = old + change; a truth's is 0 to keep it and 1 to flip it.
+ * A change in a patch's list is against the input that the old record holds, not against a value of the answer: every
+ * variable is an input and an output. After an accepted patch the new record holds the new inputs.
  */
 
 /* Is this a program? Refusals 1 to 5, each over the whole table before the next. */

@@ -72,7 +72,7 @@ fn runs(rounds: usize) {
 }
 
 const PATCH_COLUMNS: [&str; 7] =
-    ["touched", "patch, us", "rerun / patch", "patch / copy", "patch / tuned", "tuned rerun / tuned", "patch / interpreter"];
+    ["touched", "patch, us", "rerun / patch", "patch / copy", "patch / tuned patch", "tuned rerun / tuned patch", "patch / interpreter"];
 
 fn patch_cells(m: &Measured) -> Vec<String> {
     vec![
@@ -165,7 +165,7 @@ fn checks(rounds: usize) {
     let heading =
         "7. The fixed cost of a call: a check, and a run and a patch of two steps, divided by the tuned version's and the interpreter's";
     let columns =
-        ["nodes", "check, us", "run, us", "patch, us", "run / tuned", "patch / tuned", "check / interpreter", "run / interpreter"];
+        ["nodes", "check, us", "run, us", "patch, us", "run / tuned", "patch / tuned patch", "check / interpreter", "run / interpreter"];
     begin(heading, &columns);
     for assigns in [1, 6, 20, 50, 101] {
         let script = idle(assigns);

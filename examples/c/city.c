@@ -2,7 +2,7 @@
  * A small city: its budget script is run once, and then a slider is moved a few times.
  * Reads the script's table, in hex, from standard input:
  *
- *     compare assemble examples/budget.imp | city
+ *     compare/target/release/compare assemble examples/budget.imp | city
  *
  * The script's variables are residents, tax, income, and whether the city is content.
  */
@@ -52,19 +52,19 @@ int main(void)
     uint8_t table[SIMAZOKWA_MOST_TABLE];
     int64_t answer[SIMAZOKWA_ANSWER_WORDS];
     int64_t first[ROOM], second[ROOM];
-    int64_t *old = first, *new = second; /* the two records: a patch reads one and writes the other */
+    int64_t *now = first, *next = second; /* the two records: a patch reads one and writes the other */
 
     size_t length = read_table(table, sizeof table);
-    if (simazokwa_run(table, length, inputs, VARIABLES, 100, answer, old, ROOM) != SIMAZOKWA_ACCEPTED) {
+    if (simazokwa_run(table, length, inputs, VARIABLES, 100, answer, now, ROOM) != SIMAZOKWA_ACCEPTED) {
         show("run", answer);
         return 1;
     }
     show("run", answer);
     for (size_t i = 0; i < sizeof moves / sizeof *moves; i++) {
-        if (simazokwa_patch(table, length, old, ROOM, moves[i].changes, VARIABLES, answer, new, ROOM) == SIMAZOKWA_ACCEPTED) {
-            int64_t *spare = old; /* a refused patch leaves the old record in use */
-            old = new;
-            new = spare;
+        if (simazokwa_patch(table, length, now, ROOM, moves[i].changes, VARIABLES, answer, next, ROOM) == SIMAZOKWA_ACCEPTED) {
+            int64_t *spare = now; /* a refused patch leaves the old record in use */
+            now = next;
+            next = spare;
         }
         show(moves[i].what, answer);
     }
