@@ -22,7 +22,8 @@ use Rattle.table.specs.Lists.{listAt}
 use Rattle.table.specs.Paper.{refusalFor}
 use Rattle.run.specs.Laws.Taken.{AsIf, as-if, if-small, if-variables}
 use Rattle.pieces.specs.Old.{part, Inside}
-use Rattle.pieces.specs.Snapshot.{Snapped, FitsAs}
+use Rattle.pieces.specs.Snapshot.{Snapped}
+use Rattle.pieces.specs.Unbroken.{Unbroken}
 use Rattle.pieces.specs.Expression.{ShiftedAs, Shiftable, ShiftsTo}
 use Rattle.patch.specs.Statement.{Node, Enterable}
 use Rattle.patch.specs.Head.{HeadTo}
@@ -93,14 +94,14 @@ module _ {bytes : List ℕ} {base : ℕ} {lists : List ℕ} {node : ℕ} {old : 
     second-is : readSnapshot types vs (g .head .snap .rest) ≡ second
     second-is = ap (readSnapshot types vs) (g .reads .snap .rest ∙ ap (λ (n : ℕ). part old (s .from + 1 + n) end) (sym wide))
 
-    pub second-broken : {fits : Bool} → FitsAs second fits → fits ≡ false → (after : List ℤ)
+    pub second-broken : {fits : Bool} → Unbroken second fits → fits ≡ false → (after : List ℤ)
         → ForksTo bytes node old end s (Refused (refusalFor broken)) out after
     unfolding forkOf
     second-broken {fits} p wrong after =
         let none = second-is ∙ by second p in
         each (Refused (refusalFor broken)) out after (rw (g .comes, none) refl)
       where
-        by : (o : Paper.Outcome Snapshot) → FitsAs o fits → o ≡ refused broken
+        by : (o : Paper.Outcome Snapshot) → Unbroken o fits → o ≡ refused broken
         by (accepted a) q = absurd (true≢false (sym q ∙ wrong))
         by (refused r) q = ap refused (q .1)
 
@@ -110,10 +111,10 @@ module _ {bytes : List ℕ} {base : ℕ} {lists : List ℕ} {node : ℕ} {old : 
       pub within : s .from + (1 + 2 * width) ≤ end
       pub rest : snap .rest ≡ part old (s .from + (1 + 2 * width)) end
 
-    pub second-got : {fits : Bool} → FitsAs second fits → fits ≡ true → SecondGot
+    pub second-got : {fits : Bool} → Unbroken second fits → fits ≡ true → SecondGot
     second-got {fits} p right = by second refl p
       where
-        by : (o : Paper.Outcome Snapshot) → second ≡ o → FitsAs o fits → SecondGot
+        by : (o : Paper.Outcome Snapshot) → second ≡ o → Unbroken o fits → SecondGot
         by (accepted a) e q =
             let r = read-at bytes lists node (named-of k) old (s .from + 1 + width) end second-inside a e in
             let within : s .from + (1 + 2 * width) ≤ end = omega (arith, r .within, wide) in

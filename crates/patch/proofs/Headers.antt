@@ -22,7 +22,7 @@ use Rattle.rules.specs.Run.{headed, mostSteps}
 use Rattle.rules.specs.Call.{Header, header, lengthOf, limitOf, stepsIn, inputsOf, outputsOf}
 use Rattle.rules.specs.Laws.Outcome.{Holds, value, holds-need}
 use Rattle.rules.specs.Laws.Header.{Sized}
-use Rattle.patch.specs.Call.{HeadedAs}
+use Rattle.pieces.specs.Unbroken.{Unbroken}
 use Rattle.patch.proofs.Inputs.{many}
 use Rattle.pieces.specs.Laws.Changes.{kept}
 
@@ -44,7 +44,7 @@ named types old = record {
 abbrev turns : Header → Bool → Bool → Bool → Bool → Bool → Bool → Bool → Paper.Outcome Header
 turns h a b c d e f g = need a broken >>= λ u₁. need b broken >>= λ u₂. need c broken >>= λ u₃. need d broken >>= λ u₄. need e broken >>= λ u₅. need f broken >>= λ u₆. need g broken >>= λ u₇. accepted h
 
-turned : (h : Header) (a b c d e f g : Bool) → HeadedAs (turns h a b c d e f g) (a && ((b && c) && (d && (e && (f && g)))))
+turned : (h : Header) (a b c d e f g : Bool) → Unbroken (turns h a b c d e f g) (a && ((b && c) && (d && (e && (f && g)))))
 turned h false b c d e f g = (refl, refl)
 turned h true false c d e f g = (refl, refl)
 turned h true true false d e f g = (refl, refl)
@@ -63,7 +63,7 @@ module _ {bytes : List ℕ} (z : Sized bytes) (old : List ℤ) where
       && (between (pos 1) (limitOf old) (stepsIn old)
       && (fit (typesOf bytes) (inputsOf (typesOf bytes) old) && fit (typesOf bytes) (outputsOf (typesOf bytes) old)))))
 
-  header-read : HeadedAs (header (typesOf bytes) old) (read (length (typesOf bytes)))
+  header-read : Unbroken (header (typesOf bytes) old) (read (length (typesOf bytes)))
   unfolding header between
   header-read =
       let least = 3 + 2 * length (typesOf bytes) in
@@ -76,10 +76,10 @@ module _ {bytes : List ℕ} (z : Sized bytes) (old : List ℤ) where
       → b ≡ between (pos (3 + 2 * variables bytes)) (pos (length old)) (at old 0)
       → d ≡ between (pos 1) mostSteps (at old 1) → e ≡ between (pos 1) (at old 1) (at old 2)
       → f ≡ fit (typesOf bytes) (inputsOf (typesOf bytes) old) → g ≡ fit (typesOf bytes) (outputsOf (typesOf bytes) old)
-      → HeadedAs (header (typesOf bytes) old) (a && (b && (d && (e && (f && g)))))
+      → Unbroken (header (typesOf bytes) old) (a && (b && (d && (e && (f && g)))))
   unfolding lengthOf limitOf stepsIn
   header-by a b d e f g ia ib id ie if′ ig =
-      subst (HeadedAs (header (typesOf bytes) old))
+      subst (Unbroken (header (typesOf bytes) old))
       (ap read (many z)
       ∙ sym (ap₂ {C = Bool} (λ (x y : Bool). x && y) ia (ap₂ {C = Bool} (λ (x y : Bool). x && y) ib (ap₂ {C = Bool} (λ (x y : Bool). x && y) id (ap₂ {C = Bool} (λ (x y : Bool). x && y) ie (ap₂ {C = Bool} (λ (x y : Bool). x && y) if′ ig))))))
       header-read

@@ -71,20 +71,20 @@ module _ {bytes : List ℕ} {base : ℕ} {lists : List ℕ} {node : ℕ} {old : 
         stop (refused p) g = stops ∙ ap Stopped (refused-of (sym e ∙ g))
 
     module _ {change : ℤ} {size : ℕ} (is : a ≡ Is change size) where
-      pub record Told : Type 0 where
+      pub record Unbroken : Type 0 where
         pub fork : Fork
         pub comes : forks ≡ accepted fork
         pub changes : change ≡ fork .test .change
         pub sizes : size ≡ length (fork .test .words)
         pub laid : one ≡ forkLaid out (s .at) fork
 
-      told-by : (m : Paper.Outcome Fork) → forks ≡ m → ForkAs m a out (s .at) one → Told
+      told-by : (m : Paper.Outcome Fork) → forks ≡ m → ForkAs m a out (s .at) one → Unbroken
       told-by (accepted f) e g =
           let same = is-of (sym is ∙ g .0) in
           record { fork = f; comes = e; changes = same .0; sizes = same .1; laid = g .1 }
       told-by (refused q) e g = absurd (is-refused (sym is ∙ g))
 
-      told : Told
+      told : Unbroken
       told = told-by forks refl answered
 
       pub branch-forked : Forked bytes base lists node size old end s

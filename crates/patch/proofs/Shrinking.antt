@@ -23,7 +23,8 @@ use Rattle.table.specs.declared.answer.Store.{Store}
 use Rattle.table.specs.declared.answer.Outcome.the-variants.{Refused}
 use Rattle.run.specs.declared.statement.Ran.{Ran}
 use Rattle.pieces.specs.Old.{part, Inside}
-use Rattle.pieces.specs.Snapshot.{Standing, FitsAs, olds, plusEach}
+use Rattle.pieces.specs.Snapshot.{Standing, olds, plusEach}
+use Rattle.pieces.specs.Unbroken.{Unbroken}
 use Rattle.pieces.specs.Laws.Old.{part-long, part-drop}
 use Rattle.pieces.specs.Laws.Snapshot.{ReadAt, read-at}
 use Rattle.pieces.specs.Entry.{Came, WalkAs, whole}
@@ -85,12 +86,12 @@ module _ {bytes lists : List ℕ} {node last : ℕ} {old : List ℤ} {end : ℕ}
           (le-leb (length vs) (length (part old (s .from) end)) most)
           ∙ ap (readSnapshot types vs) (part-drop old (s .from) end count within ∙ ap (λ (p : ℕ). part old p end) place)
 
-      module _ (fits : Bool) (f : FitsAs reads fits) where
+      module _ (fits : Bool) (f : Unbroken reads fits) where
         -- it is none
         pub shrunk-broken : fits ≡ false → (r : Reached) → r .outcome ≡ Refused (refusalFor broken) → ShrinksTo bytes lists node last old end s r
         shrunk-broken wrong r stops = shrunk-by reads tailed r (λ out was new l. of reads f out new)
           where
-            of : (m : Paper.Outcome Snapshot) → FitsAs m fits → (out new : List ℤ) → WalkAs (m >>= λ t. accepted (closed new t)) s r old end out out
+            of : (m : Paper.Outcome Snapshot) → Unbroken m fits → (out new : List ℤ) → WalkAs (m >>= λ t. accepted (closed new t)) s r old end out out
             of (accepted t) g out new = absurd (true≢false (sym g ∙ wrong))
             of (refused q) g out new = stops ∙ ap (λ (p : Paper.Refusal). Refused (refusalFor p)) (sym (g .1))
 
@@ -103,7 +104,7 @@ module _ {bytes lists : List ℕ} {node last : ℕ} {old : List ℤ} {end : ℕ}
           tail-at : Tail
           tail-at = of reads refl f
             where
-              of : (m : Paper.Outcome Snapshot) → reads ≡ m → FitsAs m fits → Tail
+              of : (m : Paper.Outcome Snapshot) → reads ≡ m → Unbroken m fits → Tail
               of (accepted t) e g = record { snap = t; comes = e; stands = read-at bytes lists node (named-of (h .known)) old (end - w) end tail-inside t e }
               of (refused q) e g = absurd (true≢false (sym right ∙ g .0))
 

@@ -22,7 +22,8 @@ use Rattle.table.specs.declared.answer.Outcome.the-variants.{Accepted, Refused}
 use Rattle.table.specs.declared.answer.Answer.{Answer}
 use Rattle.run.specs.Call.{Answers}
 use Rattle.run.specs.Laws.Tests.{refused-some, accepted-of, stays}
-use Rattle.patch.specs.Call.{HeadedAs, Ready, tests, Tested, Startable, rootVisit, finished, PatchAnswers}
+use Rattle.patch.specs.Call.{Ready, tests, Tested, Startable, rootVisit, finished, PatchAnswers}
+use Rattle.pieces.specs.Unbroken.{Unbroken}
 use Rattle.patch.proofs.Headers.{Whole, header-whole}
 use Rattle.rules.specs.Laws.Outcome.{holds-at}
 
@@ -63,18 +64,18 @@ module _ (bytes : List ℕ) (old changes : List ℤ) where
         ap (λ (m : Paper.Outcome Program). m >>= λ q. header (q .types) old >>= judged changes (q .types) q) checked
         ∙ ap (λ (types : List Ty). header types old >>= judged changes types p) (through bytes p checked .types)
 
-    pub header-refused : {r : Bool} → HeadedAs (header (typesOf bytes) old) r → r ≡ false → Tested bytes old changes (Refused Broken)
+    pub header-refused : {r : Bool} → Unbroken (header (typesOf bytes) old) r → r ≡ false → Tested bytes old changes (Refused Broken)
     unfolding Paper.numberOf
     header-refused {r} h e = sym (ap Paper.numberOf tests-are ∙ along (header (typesOf bytes) old) h)
       where
-        along : (m : Paper.Outcome Header) → HeadedAs m r → Paper.numberOf (m >>= judged changes (typesOf bytes) p) ≡ paperNumber broken
+        along : (m : Paper.Outcome Header) → Unbroken m r → Paper.numberOf (m >>= judged changes (typesOf bytes) p) ≡ paperNumber broken
         along (accepted x) f = absurd (true≢false (sym f ∙ e))
         along (refused q) f = ap paperNumber (f .1)
 
-    pub header-accepted : {r : Bool} → HeadedAs (header (typesOf bytes) old) r → r ≡ true → (h : Header) × (header (typesOf bytes) old ≡ accepted h)
+    pub header-accepted : {r : Bool} → Unbroken (header (typesOf bytes) old) r → r ≡ true → (h : Header) × (header (typesOf bytes) old ≡ accepted h)
     header-accepted {r} h e = along (header (typesOf bytes) old) h
       where
-        along : (m : Paper.Outcome Header) → HeadedAs m r → (x : Header) × (m ≡ accepted x)
+        along : (m : Paper.Outcome Header) → Unbroken m r → (x : Header) × (m ≡ accepted x)
         along (accepted x) f = (x, refl)
         along (refused q) f = absurd (false≢true (sym (f .0) ∙ e))
 

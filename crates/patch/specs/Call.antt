@@ -1,13 +1,13 @@
 -- What the contracts of the public patch and of its steps say, by the definition of the whole call.
 -- Assumes nothing.
 use mathlib.Core.Path.{_≡_}
-use mathlib.Core.Bool.{Bool, true, false, _&&_}
+use mathlib.Core.Bool.{Bool, true, _&&_}
 use mathlib.Core.List.{List}
 use Prim.Native.Nat.{ℕ, _+_, _*_, _≤_}
 use lib.ListN.{length, take}
 use lib.IntN.{ℤ, natAbs}
 use Rattle.numbers.specs.Lay.{lay}
-use Rattle.rules.specs.Outcome.{accepted, refused, _>>=_, need, changeWrong, broken}
+use Rattle.rules.specs.Outcome.{accepted, _>>=_, need, changeWrong}
 use Rattle.rules.specs.Outcome as Paper
 use Rattle.rules.specs.Value.{Ty, inType, plus, padded, fit}
 use Rattle.rules.specs.Table.{variables, typesOf, Program, check}
@@ -27,11 +27,6 @@ use Rattle.pieces.specs.Entry.{Came, VisitAs}
 use Rattle.pieces.specs.declared.entry.Reached.{Reached}
 
 -- ---- the header and the changes
-
--- the header is whole, or broken
-abbrev pub HeadedAs : Paper.Outcome Header → Bool → Type 0
-HeadedAs (accepted h) r = r ≡ true
-HeadedAs (refused q) r = (r ≡ false) × (q ≡ broken)
 
 -- an input may take this change
 abbrev pub legalChange : Ty → ℤ → ℤ → Bool

@@ -2,12 +2,12 @@
 -- taken apart here as the code takes it apart.
 -- Assumes nothing.
 use mathlib.Core.Path.{_≡_}
-use mathlib.Core.Bool.{Bool, true, false}
+use mathlib.Core.Bool.{Bool}
 use mathlib.Core.List.{List}
 use Prim.Native.Nat.{ℕ, _+_, _≤_}
 use lib.IntN.{ℤ}
 use Rattle.numbers.specs.Lay.{lay}
-use Rattle.rules.specs.Outcome.{accepted, refused, _>>=_, broken}
+use Rattle.rules.specs.Outcome.{accepted, _>>=_}
 use Rattle.rules.specs.Outcome as Paper
 use Rattle.rules.specs.Value.{Ty}
 use Rattle.rules.specs.Table.{typesOf, tyOf}
@@ -16,6 +16,7 @@ use Rattle.table.specs.Lists.{listAt}
 use Rattle.run.specs.Code.{farthest}
 use Rattle.pieces.specs.Change.{AllNear}
 use Rattle.pieces.specs.Old.{part, Inside}
+use Rattle.pieces.specs.Unbroken.{UnbrokenWith}
 use Rattle.pieces.specs.Snapshot.{Named, Patched, patched}
 
 -- the first word, and the snapshot before it
@@ -36,8 +37,7 @@ pub record Headable (bytes lists : List ℕ) (node : ℕ) (old : List ℤ) (from
   pub place : at + 1 ≤ farthest
 
 abbrev pub HeadAs : Paper.Outcome Head → Bool → List ℤ → ℕ → List ℤ → Type 0
-HeadAs (accepted h) r out at out′ = (r ≡ true) × (out′ ≡ lay out (at + 1) (h .snap .new))
-HeadAs (refused q) r out at out′ = (r ≡ false) × (q ≡ broken)
+HeadAs m r out at out′ = UnbrokenWith (λ h. out′ ≡ lay out (at + 1) (h .snap .new)) m r
 
 abbrev pub HeadTo : List ℕ → List ℕ → ℕ → ℕ → List ℤ → ℕ → ℕ → List ℤ → Bool → List ℤ → ℕ → List ℤ → Type 0
 HeadTo bytes lists node kind old from end changes r out at out′ = HeadAs

@@ -14,12 +14,13 @@ ghost use Rattle.rules.specs.Table.{tyOf, typesOf};
 ghost use Rattle.rules.specs.Call;
 ghost use Rattle.rules.specs.Call.{header};
 ghost use Rattle.rules.specs.Laws.Header.{Sized};
-ghost use Rattle.patch.specs.Call.{HeadedAs, legalChange, Sums};
+ghost use Rattle.patch.specs.Call.{legalChange, Sums};
+ghost use Rattle.pieces.specs.Unbroken.{Unbroken};
 
 // Whether the old record's header is whole: the length, the limit, the steps, the inputs and the outputs.
 pub fn header_fits(t: &[u8], old: &[i64]) -> bool
     requires { ⌜ Sized (now t) ⌝ }
-    ensures { λ r. ⌜ HeadedAs (header (typesOf (now (t .entry))) (now (old .entry))) r ⌝ }
+    ensures { λ r. ⌜ Unbroken (header (typesOf (now (t .entry))) (now (old .entry))) r ⌝ }
 {
     let v = pair(t, 4);
     let least = 3 + 2 * v;

@@ -19,7 +19,8 @@ use Rattle.rules.specs.Value.{Ty, at, typeOf, inType, plus, minus, put, minusAl
 use Rattle.rules.specs.Patch.{Snapshot, read, readIn, moved, readSnapshot, movedAll}
 use Rattle.pieces.specs.Old.{part, Inside}
 use Rattle.pieces.specs.Laws.Old.{part-long, part-at}
-use Rattle.pieces.specs.Snapshot.{FitsAs, MovedAs, plusEach}
+use Rattle.pieces.specs.Snapshot.{MovedAs, plusEach}
+use Rattle.pieces.specs.Unbroken.{Unbroken}
 
 -- ---- all changes are 0, or one is not
 
@@ -48,37 +49,37 @@ module _ (changes : List ℤ) where
 
 module _ (types : List Ty) where
   -- a word more at the front
-  fits-behind : (r : Bool) (o : Outcome Snapshot) (f : Snapshot → Snapshot) → FitsAs o r → FitsAs (o >>= λ s. accepted (f s)) r
+  fits-behind : (r : Bool) (o : Outcome Snapshot) (f : Snapshot → Snapshot) → Unbroken o r → Unbroken (o >>= λ s. accepted (f s)) r
   fits-behind r (accepted s) f h = h
   fits-behind r (refused q) f h = h
 
-  fits-first : (v : ℕ) (vs : List ℕ) (w : ℤ) (ws : List ℤ) → inType (typeOf types v) w ≡ true → (r : Bool) → FitsAs (readSnapshot types vs ws) r
-      → FitsAs (readSnapshot types (v ∷ vs) (w ∷ ws)) r
+  fits-first : (v : ℕ) (vs : List ℕ) (w : ℤ) (ws : List ℤ) → inType (typeOf types v) w ≡ true → (r : Bool) → Unbroken (readSnapshot types vs ws) r
+      → Unbroken (readSnapshot types (v ∷ vs) (w ∷ ws)) r
   unfolding readSnapshot readIn read
   fits-first v vs w ws e r h = rw e (fits-behind r (readSnapshot types vs ws) (λ s. record { values = w ∷ s .values; rest = s .rest }) h)
 
-  fits-wrong : (v : ℕ) (vs : List ℕ) (w : ℤ) (ws : List ℤ) → inType (typeOf types v) w ≡ false → FitsAs (readSnapshot types (v ∷ vs) (w ∷ ws)) false
+  fits-wrong : (v : ℕ) (vs : List ℕ) (w : ℤ) (ws : List ℤ) → inType (typeOf types v) w ≡ false → Unbroken (readSnapshot types (v ∷ vs) (w ∷ ws)) false
   unfolding readSnapshot readIn read
   fits-wrong v vs w ws e = rw e (refl, refl)
 
-  fits-either : (v : ℕ) (vs : List ℕ) (w : ℤ) (ws : List ℤ) → FitsAs (readSnapshot types vs ws) false
-      → FitsAs (readSnapshot types (v ∷ vs) (w ∷ ws)) false
+  fits-either : (v : ℕ) (vs : List ℕ) (w : ℤ) (ws : List ℤ) → Unbroken (readSnapshot types vs ws) false
+      → Unbroken (readSnapshot types (v ∷ vs) (w ∷ ws)) false
   fits-either v vs w ws h = by (decide (inType (typeOf types v) w))
     where
-      by : (inType (typeOf types v) w ≡ true) ⊎ (inType (typeOf types v) w ≡ false) → FitsAs (readSnapshot types (v ∷ vs) (w ∷ ws)) false
+      by : (inType (typeOf types v) w ≡ true) ⊎ (inType (typeOf types v) w ≡ false) → Unbroken (readSnapshot types (v ∷ vs) (w ∷ ws)) false
       by (inl e) = fits-first v vs w ws e false h
       by (inr e) = fits-wrong v vs w ws e
 
   -- each word is in its type
   fits-all : (vs : List ℕ) (ws : List ℤ) → length vs ≤ length ws
-      → ((k : ℕ) → k < length vs → inType (typeOf types (getD vs k 0)) (at ws k) ≡ true) → FitsAs (readSnapshot types vs ws) true
+      → ((k : ℕ) → k < length vs → inType (typeOf types (getD vs k 0)) (at ws k) ≡ true) → Unbroken (readSnapshot types vs ws) true
   unfolding readSnapshot
   fits-all [] ws long all = refl
   fits-all (v ∷ vs) [] long all = absurd (omega arith)
   fits-all (v ∷ vs) (w ∷ ws) long all = fits-first v vs w ws (all 0 (omega arith)) true (fits-all vs ws (omega arith) (λ k below. all (suc k) (omega arith)))
 
   -- too few words
-  fits-short : (vs : List ℕ) (ws : List ℤ) → length ws < length vs → FitsAs (readSnapshot types vs ws) false
+  fits-short : (vs : List ℕ) (ws : List ℤ) → length ws < length vs → Unbroken (readSnapshot types vs ws) false
   unfolding readSnapshot readIn read
   fits-short [] ws short = absurd (omega arith)
   fits-short (v ∷ vs) [] short = (refl, refl)
@@ -86,25 +87,25 @@ module _ (types : List Ty) where
 
   -- a word is none of its type
   fits-not : (vs : List ℕ) (ws : List ℤ) (k : ℕ) → k < length vs → k < length ws
-      → inType (typeOf types (getD vs k 0)) (at ws k) ≡ false → FitsAs (readSnapshot types vs ws) false
+      → inType (typeOf types (getD vs k 0)) (at ws k) ≡ false → Unbroken (readSnapshot types vs ws) false
   fits-not [] ws k low below wrong = absurd (omega arith)
   fits-not (v ∷ vs) [] k low below wrong = absurd (omega arith)
   fits-not (v ∷ vs) (w ∷ ws) zero low below wrong = fits-wrong v vs w ws wrong
   fits-not (v ∷ vs) (w ∷ ws) (suc k) low below wrong = fits-either v vs w ws (fits-not vs ws k (omega arith) (omega arith) wrong)
 
 module _ (types : List Ty) (vs : List ℕ) (old : List ℤ) (from end : ℕ) (inside : Inside old from end) where
-  pub stands-short : end < from + length vs → FitsAs (readSnapshot types vs (part old from end)) false
+  pub stands-short : end < from + length vs → Unbroken (readSnapshot types vs (part old from end)) false
   stands-short short = fits-short types vs (part old from end) (omega (arith, part-long old from end (inside .ends), inside))
 
   module _ (whole : from + length vs ≤ end) where
     pub stands-all : ((k : ℕ) → k < length vs → inType (typeOf types (getD vs k 0)) (at old (from + k)) ≡ true)
-        → FitsAs (readSnapshot types vs (part old from end)) true
+        → Unbroken (readSnapshot types vs (part old from end)) true
     stands-all all =
         fits-all types vs (part old from end) (omega (arith, part-long old from end (inside .ends)))
         (λ k low. rw (part-at old from end k (omega arith)) (all k low))
 
     pub stands-not : (k : ℕ) → k < length vs → inType (typeOf types (getD vs k 0)) (at old (from + k)) ≡ false
-        → FitsAs (readSnapshot types vs (part old from end)) false
+        → Unbroken (readSnapshot types vs (part old from end)) false
     stands-not k low wrong =
         fits-not types vs (part old from end) k low (omega (arith, part-long old from end (inside .ends)))
         (rw (part-at old from end k (omega arith)) wrong)

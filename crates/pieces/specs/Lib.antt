@@ -4,3 +4,4 @@ pub mod Expression
 pub mod Laws
 pub mod Old
 pub mod Snapshot
+pub mod Unbroken

@@ -1,17 +1,18 @@
 -- What the functions over snapshots of the old record ask and answer, by the definitions of the rules.
 -- Assumes nothing.
 use mathlib.Core.Path.{_≡_}
-use mathlib.Core.Bool.{Bool, true, false}
+use mathlib.Core.Bool.{Bool, true}
 use mathlib.Core.List.{List, [], _∷_}
 use Prim.Native.Nat.{ℕ, _+_, _≤_, _<_}
 use lib.ListN.{length, getD}
 use lib.IntN.{ℤ}
 use Rattle.numbers.specs.Lay.{lay}
-use Rattle.rules.specs.Outcome.{Outcome, accepted, refused, _>>=_, broken}
+use Rattle.rules.specs.Outcome.{Outcome, accepted, _>>=_}
 use Rattle.rules.specs.Value.{Ty, at, typeOf, inType, plus, zeros, mostVariables, put, snapshot, minusAll}
 use Rattle.rules.specs.Table.{nodesAt, typesOf}
 use Rattle.rules.specs.Patch.{Snapshot, readSnapshot, movedAll}
 use Rattle.table.specs.Lists.{listAt, Row}
+use Rattle.pieces.specs.Unbroken.{Unbroken, UnbrokenWith}
 use Rattle.pieces.specs.Old.{part, Inside}
 
 -- ---- what is asked
@@ -39,15 +40,9 @@ pub record Standing (bytes lists : List ℕ) (node : ℕ) (old : List ℤ) (from
 
 -- ---- what is answered
 
--- the snapshot is read; every refusal is `broken`
-abbrev pub FitsAs : Outcome Snapshot → Bool → Type 0
-FitsAs (accepted s) r = r ≡ true
-FitsAs (refused q) r = (r ≡ false) × (q ≡ broken)
-
--- the snapshot takes its changes and is laid down; every refusal is `broken`
+-- the snapshot takes its changes and is laid down
 abbrev pub MovedAs : Outcome (List ℤ) → Bool → List ℤ → ℕ → List ℤ → Type 0
-MovedAs (accepted news) r out place after = (r ≡ true) × (after ≡ lay out place news)
-MovedAs (refused q) r out place after = (r ≡ false) × (q ≡ broken)
+MovedAs m r out place after = UnbrokenWith (λ news. after ≡ lay out place news) m r
 
 -- each listed variable's old word plus its change
 unfoldable pub plusEach : List Ty → List ℕ → List ℤ → List ℤ → List ℤ
@@ -69,14 +64,13 @@ patched types vs changes ws = do
   accepted (record { old = s .values; new = new; rest = s .rest })
 
 abbrev pub PatchedAs : Outcome Patched → Bool → List ℤ → ℕ → List ℤ → Type 0
-PatchedAs (accepted p) r out place after = (r ≡ true) × (after ≡ lay out place (p .new))
-PatchedAs (refused q) r out place after = (r ≡ false) × (q ≡ broken)
+PatchedAs m r out place after = UnbrokenWith (λ p. after ≡ lay out place (p .new)) m r
 
 -- ---- the contracts of the code, by the node's list
 
 -- the snapshot between the place and the end is read
 abbrev pub FitsTo : List ℕ → List ℕ → ℕ → List ℤ → ℕ → ℕ → Bool → Type 0
-FitsTo bytes lists node old from end r = FitsAs (readSnapshot (typesOf bytes) (listAt lists node) (part old from end)) r
+FitsTo bytes lists node old from end r = Unbroken (readSnapshot (typesOf bytes) (listAt lists node) (part old from end)) r
 
 -- the snapshot that stands there takes its changes
 abbrev pub MovesTo : List ℕ → List ℕ → ℕ → List ℤ → ℕ → List ℤ → Bool → List ℤ → ℕ → List ℤ → Type 0

@@ -1,4 +1,4 @@
--- `patch::change::differ` meets its contract: two values are equal where their words are.
+-- `pieces::change::differ` meets its contract: two values are equal where their words are.
 -- Assumes nothing.
 use Rattle.pieces.specs.Laws.Changes.{differ-same, differ-other}
 use Rattle.pieces.proofs.change.differ.Statement.{statement}

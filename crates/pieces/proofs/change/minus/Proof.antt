@@ -1,4 +1,4 @@
--- `patch::change::minus` meets its contract: byte 0 names a number, and the difference of two near words fits; any other names a truth.
+-- `pieces::change::minus` meets its contract: byte 0 names a number, and the difference of two near words fits; any other names a truth.
 -- Assumes nothing.
 use mathlib.Core.Path.{sym, ap, _∙_}
 use borrow.Author.Needs.{needs}

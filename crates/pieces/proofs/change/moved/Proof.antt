@@ -1,4 +1,4 @@
--- `patch::change::moved` meets its contract: the test of the type decides whether the old value with its change is one.
+-- `pieces::change::moved` meets its contract: the test of the type decides whether the old value with its change is one.
 -- Assumes nothing.
 use mathlib.Core.Path.{sym, _∙_}
 use borrow.Author.Needs.{needs}

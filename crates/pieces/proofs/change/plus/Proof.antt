@@ -1,4 +1,4 @@
--- `patch::change::plus` meets its contract: byte 0 names a number, and the sum of two near words fits; any other names a truth.
+-- `pieces::change::plus` meets its contract: byte 0 names a number, and the sum of two near words fits; any other names a truth.
 -- Assumes nothing.
 use mathlib.Core.Path.{sym, ap, _∙_}
 use borrow.Author.Needs.{needs}

@@ -1,4 +1,4 @@
--- `patch::entry::copy` meets its contract. The loop's invariant: the first i words are laid. The count is that of the words or of
+-- `pieces::entry::copy` meets its contract. The loop's invariant: the first i words are laid. The count is that of the words or of
 -- the buffer's room behind the place, whichever is less. Assumes nothing.
 use mathlib.Core.Path.{_≡_}
 use mathlib.Core.Logic.{⊎-elim, inl, inr}

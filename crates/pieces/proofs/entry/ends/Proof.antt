@@ -1,4 +1,4 @@
--- `patch::entry::ends` meets its contract: what it returns is the definition's test, by whether the part is a last one.
+-- `pieces::entry::ends` meets its contract: what it returns is the definition's test, by whether the part is a last one.
 -- Assumes nothing.
 use borrow.Author.Needs.{needs}
 use Rattle.pieces.proofs.entry.ends.Statement.{statement}

@@ -1,4 +1,4 @@
--- `patch::entry::meet` meets its contract: each word is read back as it was written, so each test is the definition's.
+-- `pieces::entry::meet` meets its contract: each word is read back as it was written, so each test is the definition's.
 -- Assumes nothing.
 use mathlib.Core.Path.{_≡_, sym, ap, _∙_, subst}
 use Prim.Native.Nat.{ℕ, _+_, _-_}

@@ -1,4 +1,4 @@
--- `patch::entry::skip` meets its contract: what the skip rule leaves, by whether the entry's steps are left.
+-- `pieces::entry::skip` meets its contract: what the skip rule leaves, by whether the entry's steps are left.
 -- Assumes nothing.
 use native.Mathlib.Omega.{arith}
 use borrow.Author.Needs.{needs}

@@ -1,4 +1,4 @@
--- `patch::expression::given` meets its contract: the operators below 7 give numbers, the others truths.
+-- `pieces::expression::given` meets its contract: the operators below 7 give numbers, the others truths.
 -- Assumes nothing.
 use Rattle.pieces.proofs.Recalling.{gives-number, gives-truth}
 use Rattle.pieces.proofs.expression.given.Statement.{statement}

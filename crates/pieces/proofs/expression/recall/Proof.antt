@@ -1,4 +1,4 @@
--- `patch::expression::recall` meets its contract: each test that fails is one that reading the two words fails at, and `compute` decides.
+-- `pieces::expression::recall` meets its contract: each test that fails is one that reading the two words fails at, and `compute` decides.
 -- Assumes nothing.
 use mathlib.Core.Path.{_≡_, sym, _∙_}
 use Prim.Native.Nat.{_+_, _≤_}

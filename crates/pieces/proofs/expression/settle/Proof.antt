@@ -1,4 +1,4 @@
--- `patch::expression::settle` meets its contract: the two operands are put down, `compute` decides, and the change is the difference
+-- `pieces::expression::settle` meets its contract: the two operands are put down, `compute` decides, and the change is the difference
 -- of two values of the operator's type.
 -- Assumes nothing.
 use mathlib.Core.Path.{_≡_, ap₂, _∙_}

@@ -1,4 +1,4 @@
--- `patch::snapshot::move_snapshot` meets its contract. The loop's invariant: the first i of the new words are in their types and laid down;
+-- `pieces::snapshot::move_snapshot` meets its contract. The loop's invariant: the first i of the new words are in their types and laid down;
 -- the first that is not refuses. Assumes nothing.
 use mathlib.Core.Path.{_≡_}
 use mathlib.Core.Bool.{true}

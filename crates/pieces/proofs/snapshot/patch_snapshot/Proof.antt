@@ -1,4 +1,4 @@
--- `patch::snapshot::patch_snapshot` meets its contract: a snapshot that is read stands there, so it may be moved; either step refuses for
+-- `pieces::snapshot::patch_snapshot` meets its contract: a snapshot that is read stands there, so it may be moved; either step refuses for
 -- the whole. Assumes nothing.
 use mathlib.Core.Path.{_≡_, subst}
 use mathlib.Core.Bool.{Bool, true, false}
@@ -8,7 +8,7 @@ use Rattle.rules.specs.Table.{typesOf}
 use Rattle.rules.specs.Patch.{readSnapshot}
 use Rattle.table.specs.Lists.{listAt}
 use Rattle.pieces.specs.Old.{part}
-use Rattle.pieces.specs.Snapshot.{FitsAs}
+use Rattle.pieces.specs.Unbroken.{Unbroken}
 use Rattle.pieces.proofs.Patching.{fits-standing, patched-not, patched-as}
 use Rattle.pieces.proofs.snapshot.patch_snapshot.Statement.{statement}
 use Rattle.pieces.proofs.snapshot.patch_snapshot.Tie as tie
@@ -18,7 +18,7 @@ start f = f .before .before
 
 -- whether the snapshot is read
 abbrev Fits : tie.Start → Bool → Type 0
-Fits s = FitsAs (readSnapshot (typesOf (s .args .t .now)) (listAt (s .args .lists .now) (s .args .node)) (part (s .args .old .now) (s .args .from) (s .args .end)))
+Fits s = Unbroken (readSnapshot (typesOf (s .args .t .now)) (listAt (s .args .lists .now) (s .args .node)) (part (s .args .old .now) (s .args .from) (s .args .end)))
 
 told : (f : tie.After-snapshot-fits) (b : Bool) → f .snapshot-fits .result ≡ b → Fits (start f) b
 told f b e = subst (Fits (start f)) e (f .snapshot-fits .ensures)

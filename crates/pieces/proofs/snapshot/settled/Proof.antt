@@ -1,4 +1,4 @@
--- `patch::snapshot::settled` meets its contract. The loop's invariant: the first i of the settled changes are put into the changes; what a
+-- `pieces::snapshot::settled` meets its contract. The loop's invariant: the first i of the settled changes are put into the changes; what a
 -- turn computes is the next. Assumes nothing.
 use Prim.Native.Nat.{_≤_, _-_}
 use native.Mathlib.Omega.{arith}

@@ -1,4 +1,4 @@
--- `patch::snapshot::snapshot_fits` meets its contract. The loop's invariant: each word before i is in its type; the first that is not decides.
+-- `pieces::snapshot::snapshot_fits` meets its contract. The loop's invariant: each word before i is in its type; the first that is not decides.
 -- Assumes nothing.
 use mathlib.Core.Path.{_≡_, _∙_}
 use mathlib.Core.Bool.{true}

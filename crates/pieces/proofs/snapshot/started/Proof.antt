@@ -1,4 +1,4 @@
--- `patch::snapshot::started` meets its contract. The loop's invariant: the first i of the new values are put into a store of zeros; what a
+-- `pieces::snapshot::started` meets its contract. The loop's invariant: the first i of the new values are put into a store of zeros; what a
 -- turn computes is the next. Assumes nothing.
 use Prim.Native.Nat.{_≤_, _-_}
 use native.Mathlib.Omega.{arith}

@@ -1,4 +1,4 @@
--- `patch::snapshot::unchanged` meets its contract. The loop's invariant: each variable before i has change 0; the first that has not decides.
+-- `pieces::snapshot::unchanged` meets its contract. The loop's invariant: each variable before i has change 0; the first that has not decides.
 -- Assumes nothing.
 use mathlib.Core.Path.{_≡_, sym, ap, _∙_}
 use Prim.Native.Nat.{ℕ, _≤_, _<_, _-_}

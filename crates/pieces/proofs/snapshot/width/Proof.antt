@@ -1,4 +1,4 @@
--- `patch::snapshot::width` meets its contract: the row's first byte is the length of the node's list. Assumes nothing.
+-- `pieces::snapshot::width` meets its contract: the row's first byte is the length of the node's list. Assumes nothing.
 use native.Mathlib.Omega.{arith}
 use borrow.Author.Needs.{needs}
 use Rattle.table.specs.Laws.Row.{row-long}
