@@ -17,7 +17,7 @@ const WORD_BYTES: usize = 32768;
 const HEAD_BYTES: usize = 20;
 
 // The five numbers that open a call.
-#[derive(Drop)]
+#[derive(Clone, Copy, Drop)]
 pub struct Call {
     pub kind: usize,
     pub bytes: usize,
@@ -27,7 +27,7 @@ pub struct Call {
 }
 
 // What stands next in the input.
-#[derive(Drop)]
+#[derive(Clone, Copy, Drop)]
 pub enum Asked {
     Call(Call),
     End,

@@ -1,1 +1,2 @@
 // Laws alone, in specs/: signed words and lists of words.
+#![tactic(auto)]

@@ -12,7 +12,7 @@ use table::answer::{Changes, Outcome, Refusal};
 
 // Where the walk has come to: its outcome, the changes, the steps that are left, those walked and those reused, the place in the
 // old record and the place behind the new words.
-#[derive(Drop)]
+#[derive(Clone, Copy, Drop)]
 pub struct Reached {
     pub changes: Changes,
     pub left: usize,
@@ -40,7 +40,7 @@ pub fn stopped(reached: Reached, reason: Refusal) -> Reached
 }
 
 // An entry's end and its steps, or that it is broken.
-#[derive(Drop)]
+#[derive(Clone, Copy, Drop)]
 pub enum Met {
     Is(usize, usize),
     Broken,

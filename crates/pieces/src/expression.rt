@@ -16,14 +16,14 @@ use table::access::{child_a, child_b, kind, tag};
 use table::answer::Refusal;
 
 // A change, or an operand's new value, with the length of the record; or a refusal.
-#[derive(Drop)]
+#[derive(Clone, Copy, Drop)]
 pub enum Shifted {
     Is(i64, usize),
     Refused(Refusal),
 }
 
 // An operator's old operands and its old result, or that they are broken.
-#[derive(Drop)]
+#[derive(Clone, Copy, Drop)]
 pub enum Recalled {
     Are(i64, i64, i64),
     Broken,

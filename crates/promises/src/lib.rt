@@ -1,1 +1,2 @@
 // Theorems alone, in specs/: what the user was promised.
+#![tactic(auto)]

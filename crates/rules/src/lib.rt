@@ -1,1 +1,2 @@
 // Definitions alone, in specs/: what tables, runs, records and patches mean.
+#![tactic(auto)]

@@ -8,7 +8,7 @@ use table::access::{child_a, child_b, constant, kind, tag};
 use table::answer::Refusal;
 
 // A value with the place behind its record, or a refusal.
-#[derive(Drop)]
+#[derive(Clone, Copy, Drop)]
 pub enum Evaluated {
     Is(i64, usize),
     Refused(Refusal),

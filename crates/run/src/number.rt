@@ -36,7 +36,7 @@ fn apply(kind: usize, x: i64, y: i64) -> i64
 }
 
 // An operator's result, or that it is no value of its type.
-#[derive(Drop)]
+#[derive(Clone, Copy, Drop)]
 pub enum Computed {
     Is(i64),
     Outside,

@@ -14,7 +14,7 @@ use table::answer::{Outcome, Refusal, Store};
 
 // Where a run of a statement has come to: the store, the steps that are left, the place behind its words, and its outcome; this comes
 // last, so that the array begins on a whole word.
-#[derive(Drop)]
+#[derive(Clone, Copy, Drop)]
 pub struct Ran {
     pub store: Store,
     pub left: usize,

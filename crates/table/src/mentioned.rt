@@ -11,7 +11,7 @@ ghost use Rattle.table.specs.Listing.{Children, Placed, Ready};
 use crate::access::{pair, wide};
 
 // For each node n: at 33 * n how many variables it mentions, and behind it their numbers, rising.
-#[derive(Drop)]
+#[derive(Clone, Copy, Drop)]
 pub struct Mentioned {
     pub lists: [u8; 16896],
 }

@@ -32,7 +32,7 @@ const BIT: u8 = 2;
 const VARIABLE: u8 = 3;
 
 // A node's eight bytes.
-#[derive(Drop)]
+#[derive(Clone, Copy, Drop)]
 pub struct Fields {
     pub kind: usize,
     pub tag: usize,
@@ -42,7 +42,7 @@ pub struct Fields {
 }
 
 // What a kind asks of its tag and children, and the sort that it gives.
-#[derive(Drop)]
+#[derive(Clone, Copy, Drop)]
 pub struct Form {
     pub tag: u8,
     pub a: u8,

@@ -63,6 +63,7 @@ union_right (v ∷ vs) ws u h = insert_old v (union vs ws) u (union_right vs ws 
 
 pub union_left : (vs ws : List ℕ) → vs ⊆ union vs ws
 unfolding union
+union_left [] ws u x = elim x [ ]
 union_left (v ∷ vs) ws u (Memᴰ.head e) = Memᴰ.cast e (insert_new v (union vs ws))
 union_left (v ∷ vs) ws u (Memᴰ.tail h) = insert_old v (union vs ws) u (union_left vs ws u h)
 

@@ -127,6 +127,7 @@ minus_snapshots types (v ∷ vs) new old e =
 unchanged_on : (types : List Ty) (vs : List ℕ) (new old : List ℤ) → length new ≡ length old → Good types old → Good types new
     → unchanged vs (difference types new old) ≡ true → (v : ℕ) → v ∈ vs → at new v ≡ at old v
 unfolding unchanged
+unchanged_on types [] new old e go gn h v x = elim x [ ]
 unchanged_on types (w ∷ vs) new old e go gn h v (Memᴰ.head q) =
     rw q (unmoved (type_of types w) (at old w) (at new w) (go w) (gn w)
     (sym (at_difference types new old e w) ∙ eq_z_true _ _ (and_left (eq_z (at (difference types new old) w) (pos 0)) _ h)))
@@ -156,6 +157,7 @@ set_agrees (y ∷ ys) (z ∷ zs) e (suc w) (suc v) (inr q) = set_agrees ys zs (s
 pub put_agrees : (vs : List ℕ) (words whole : List ℤ) → length words ≡ length whole → (v : ℕ)
     → (v ∈ vs) ⊎ (at words v ≡ at whole v) → at (put vs (snapshot vs whole) words) v ≡ at whole v
 unfolding put snapshot
+put_agrees [] words whole e v (inl x) = elim x [ ]
 put_agrees [] words whole e v (inr q) = q
 put_agrees (w ∷ vs) words whole e v (inl (Memᴰ.head q)) =
     put_agrees vs (set words w (at whole w)) whole (length-set words w (at whole w) ∙ e) v (inr (set_agrees words whole e w v (inl q)))

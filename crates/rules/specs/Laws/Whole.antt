@@ -51,10 +51,12 @@ or_right true e = refl
 or_right false e = e
 
 pub member_listed : (n : ℕ) (ms : List ℕ) → n ∈ ms → listed n ms ≡ true
+member_listed n [] x = elim x [ ]
 member_listed n (m ∷ ms) (Memᴰ.head q) = rw (eq-eqb n m q)
 member_listed n (m ∷ ms) (Memᴰ.tail h) = or_right (eqb n m) (member_listed n ms h)
 
 listed_more : (ns ms : List ℕ) → all_listed ns ms ≡ true → (n : ℕ) → n ∈ ns → listed n ms ≡ true
+listed_more [] ms e n x = elim x [ ]
 listed_more (m ∷ ns) ms e n (Memᴰ.head q) = rw q (and_left (listed m ms) _ e)
 listed_more (m ∷ ns) ms e n (Memᴰ.tail h) = listed_more ns ms (and_right (listed m ms) _ e) n h
 

@@ -58,10 +58,11 @@ unlisted_said said k first (some kind ∷ ks) h = (unlisted_said (said × (k ≡
 unlisted_none : (said : Type 0) (first i : ℕ) (ks : List (Option Kind)) → Unlisted said (first + i) first ks → get_or ks i none ≡ none
 unlisted_none said first i [] h = refl
 unlisted_none said first zero (none ∷ ks) h = refl
-unlisted_none said first (suc i) (none ∷ ks) h = unlisted_none _ (suc first) i ks (rw (add-suc first i, ← suc-add first i) at h)
+unlisted_none said first (suc i) (none ∷ ks) h = unlisted_none said (suc first) i ks (rw (add-suc first i, ← suc-add first i) at h)
 unlisted_none said first zero (some kind ∷ ks) h =
     absurd ((unlisted_said (said × (first + 0 ≡ first → ⊥)) (first + 0) (suc first) ks h).1 (add-zero first))
-unlisted_none said first (suc i) (some kind ∷ ks) h = unlisted_none _ (suc first) i ks (rw (add-suc first i, ← suc-add first i) at h)
+unlisted_none said first (suc i) (some kind ∷ ks) h =
+    unlisted_none (said × (suc first + i ≡ first → ⊥)) (suc first) i ks (rw (add-suc first i, ← suc-add first i) at h)
 
 -- a number that is none of the kinds' is no kind's
 pub no_kind : (k : ℕ) → Unlisted (Unit {0}) k 0 kinds → kind_of k ≡ none

@@ -1,0 +1,31 @@
+-- `run::call::complete` meets its contract: the header's words are laid before the root's entry, and zeros behind it.
+-- Assumes nothing.
+use mathlib.Core.Path.{refl}
+use native.Mathlib.Omega.{arith}
+use Rattle.rules.specs.Value.{zeros, most_variables}
+use Prim.Native.Nat.{◌-◌}
+use Rattle.run.specs.Laws.Numbers.{three_put}
+use Rattle.run.specs.Laws.Completed.{answer_is, buffer_is}
+use Rattle.run.proofs.call.complete.Goals as goal
+
+pub overflow_sub-steps : goal.overflow_sub-steps
+overflow_sub-steps c = omega (arith, c.requires.least)
+
+pub padded-outputs-requires : goal.padded-outputs-requires
+unfolding most_variables
+padded-outputs-requires c = (omega (arith, c.requires.few, c.requires.long), c.requires.few)
+
+pub returns : goal.returns
+unfolding zeros most_variables
+returns c =
+    let size = c.args.ran.at in
+    let steps = c.args.limit - c.args.ran.left in
+    λ d out e. (
+      answer_is c.requires d out e _ refl refl refl refl refl refl c.padded-outputs.ensures refl,
+      buffer_is c.requires d out e
+          (three_put c.args.out.now 0 size c.args.limit steps (omega (arith, c.requires.near)) (omega (arith, c.requires.low)) (omega (arith, c.requires.low)) c.put.ensures c.put-2.ensures c.put-3.ensures)
+          c.lay_slice.ensures.laid
+          c.lay_values.ensures.laid
+          c.padded-outputs.ensures
+          c.clear.ensures,
+    )

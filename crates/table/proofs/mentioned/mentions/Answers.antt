@@ -1,0 +1,74 @@
+-- `table::mentioned::mentions` meets its contract. The loop's invariant: the nodes below n have their lists.
+-- Assumes nothing.
+use mathlib.Core.Path.{◌≡◌, refl, ap, ◌∙◌, subst}
+use Prim.Native.Nat.{ℕ, ◌-◌, ◌<◌}
+use native.Mathlib.Omega.{arith}
+use borrow.Author.Rules.{rules}
+use lib.ListN.{length, take}
+use Rattle.rules.specs.Table.{variables, nodes}
+use Rattle.rules.specs.Laws.Header.{Sized, sized}
+use Rattle.rules.specs.Laws.Rising.{rising}
+use Rattle.table.specs.Rows.{laid}
+use Rattle.table.specs.Listing.{Made, made_next, lists_all}
+use Rattle.table.proofs.mentioned.mentions.Goals as goal
+
+abbrev Head : Type 0
+Head = tie.At-loop invariant-loop decreases-loop
+
+abbrev entry : Head → tie.Start invariant-loop decreases-loop
+entry l = l.before.before.before.before
+
+size : (l : Head) → Sized (entry l).args.t.now
+size l = sized (entry l).args.t.now (entry l).pre.0 (entry l).pre.1
+
+variables-are : (l : Head) → l.before.before.pair.result ≡ variables (entry l).args.t.now
+unfolding variables
+variables-are l = l.before.before.pair.ensures.0
+
+count_is : (l : Head) → l.before.pair2.result ≡ nodes (entry l).args.t.now
+unfolding nodes
+count_is l = l.before.pair2.ensures.0
+
+pub pair-variables-requires : goal.pair-variables-requires
+pair-variables-requires c = omega (arith, (sized c.args.t.now c.requires.0 c.requires.1).whole)
+
+pub pair-count-requires : goal.pair-count-requires
+pair-count-requires c = omega (arith, (sized c.args.t.now c.requires.0 c.requires.1).whole)
+
+pub loop-n-init : goal.loop-n-init
+loop-n-init c = (omega arith, record { long = refl; upto = λ m h. absurd (omega arith) })
+
+pub flags_of-flags-requires : goal.flags_of-flags-requires
+flags_of-flags-requires c =
+    record { table = (entry c).requires; inside = omega (arith, count_is c, c.loop-n-test.true); made = c.loop-n.invariant.1 }
+
+pub write_list-requires : goal.write_list-requires
+write_list-requires c =
+    let inside : c.loop-n.n < 512 = omega (arith, count_is c, (size c).small, c.loop-n-test.true) in
+    (c.loop-n.invariant.1.long, inside, omega (arith, variables-are c, (size c).few))
+
+pub overflow_add-n : goal.overflow_add-n
+overflow_add-n c =
+    let inside : c.loop-n.n < 512 = omega (arith, count_is c, (size c).small, c.loop-n-test.true) in
+    omega (arith, inside)
+
+pub loop-n-smaller : goal.loop-n-smaller
+loop-n-smaller c =
+    let h = c.loop-n-test.true in
+    omega arith
+
+pub loop-n-preserved : goal.loop-n-preserved
+loop-n-preserved c =
+    let inside : c.loop-n.n < 512 = omega (arith, count_is c, (size c).small, c.loop-n-test.true) in
+    let all : length c.flags_of-flags.result ≡ 32 = search rules in
+    let written : c.write_list.new.lists
+    ≡ laid c.loop-n.lists c.loop-n.n (rising 0 (take (variables (entry c).args.t.now) c.flags_of-flags.result)) =
+    c.write_list.ensures ∙ ap (λ (k : ℕ). laid c.loop-n.lists c.loop-n.n (rising 0 (take k c.flags_of-flags.result))) (variables-are c) in (
+      omega (arith, c.loop-n-test.true),
+      rw written (made_next (entry c).args.t.now (entry c).requires c.loop-n.lists c.loop-n.n c.flags_of-flags.result inside c.loop-n.invariant.1 all c.flags_of-flags.ensures),
+    )
+
+pub returns : goal.returns
+returns c =
+    let e : c.loop-n.n ≡ nodes (entry c).args.t.now = omega (arith, count_is c) in
+    lists_all (entry c).args.t.now (entry c).requires c.loop-n.lists (subst (Made (entry c).args.t.now c.loop-n.lists) e c.loop-n.invariant.1)
