@@ -14,8 +14,8 @@ use Rattle.rules.specs.Tree.{Statement}
 use Rattle.rules.specs.Table.{types_of, expression}
 use Rattle.rules.specs.Patch as Rules
 use Rattle.rules.specs.Patch.{Walked, no_steps, steps_of, finished, shift, walk}
-use Rattle.rules.specs.Laws.Parts.{node_at, part_at}
-use Rattle.rules.specs.Laws.Size.{weight, few_operators, Small}
+use Rattle.rules.proofs.Laws.Parts.{node_at, part_at}
+use Rattle.rules.proofs.Laws.Size.{weight, few_operators, Small}
 use Rattle.table.specs.Paper.{refusal_for}
 use Rattle.table.specs.declared.answer.Refusal.{Refusal}
 use Rattle.table.specs.declared.answer.Outcome.TheVariants.{Refused as Stop}

@@ -17,8 +17,8 @@ use Rattle.rules.specs.Tree.{Expression, Statement, mentions}
 use Rattle.rules.specs.Table.{types_of, Part, statement}
 use Rattle.rules.specs.Run.{holds, if_words}
 use Rattle.rules.specs.Patch.{Visited, Walked, Fork, steps_of, moved_all, kept, visit, walk}
-use Rattle.rules.specs.Laws.Parts.{part_at}
-use Rattle.rules.specs.Laws.Size.{Small}
+use Rattle.rules.proofs.Laws.Parts.{part_at}
+use Rattle.rules.proofs.Laws.Size.{Small}
 use Rattle.table.specs.Lists.{list_at}
 use Rattle.table.specs.Paper.{refusal_for}
 use Rattle.table.specs.declared.answer.Refusal.{Refusal}
@@ -31,7 +31,7 @@ use Rattle.pieces.specs.Old.{part}
 use Rattle.pieces.specs.Snapshot.{Standing, MovedAs, olds}
 use Rattle.pieces.specs.Laws.Snapshot.{olds_long, moved_long}
 use Rattle.patch.specs.Laws.Head.{ForkAt, fork_at}
-use Rattle.rules.specs.Laws.Outcome.{accepted_of}
+use Rattle.rules.proofs.Laws.Outcome.{accepted_of}
 use Rattle.pieces.specs.Entry.{Sound, Came, VisitAs, whole, WalkAs, AdvancedBy}
 use Rattle.patch.specs.Statement.{Node, Visitable, VisitsTo}
 use Rattle.patch.specs.Branch.{fork_of, fork_laid, Forked, KeepsTo}

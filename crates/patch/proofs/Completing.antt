@@ -13,7 +13,7 @@ use Rattle.rules.specs.Value.{zeros, most_variables, padded}
 use Rattle.rules.specs.Patch.{Counts, Visited, steps_of}
 use Rattle.rules.specs.Run.{headed, record_of}
 use Rattle.rules.specs.Call.{Answer as Paper-Answer, answered}
-use Rattle.rules.specs.Laws.Call.{length_padded}
+use Rattle.rules.proofs.Laws.Call.{length_padded}
 use Rattle.table.specs.Paper.{number_of, answer_of}
 use Rattle.table.specs.declared.answer.Outcome.{Outcome}
 use Rattle.table.specs.declared.answer.Outcome.TheVariants.{Accepted}

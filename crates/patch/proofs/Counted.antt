@@ -11,7 +11,7 @@ use Rattle.rules.specs.Outcome.{accepted}
 use Rattle.rules.specs.Value.{Ty}
 use Rattle.rules.specs.Tree.{Expression, Statement, mentions}
 use Rattle.rules.specs.Table.{types_of, Part, statement}
-use Rattle.rules.specs.Laws.Parts.{node_at, part_at}
+use Rattle.rules.proofs.Laws.Parts.{node_at, part_at}
 use Rattle.table.specs.Lists.{list_at}
 use Rattle.run.specs.Laws.Loops.{AsRepeat, as_repeat}
 use Rattle.pieces.specs.Old.{part}

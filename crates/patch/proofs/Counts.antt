@@ -16,7 +16,7 @@ use Rattle.rules.specs.Value.{Ty, at, in_type}
 use Rattle.rules.specs.Tree.{Statement, mentions}
 use Rattle.rules.specs.Table.{types_of, ty_of, expression}
 use Rattle.rules.specs.Patch as Rules
-use Rattle.rules.specs.Laws.Parts.{node_at, part_at}
+use Rattle.rules.proofs.Laws.Parts.{node_at, part_at}
 use Rattle.table.specs.Lists.{list_at}
 use Rattle.table.specs.Paper.{refusal_for}
 use Rattle.run.specs.Code.{Number}

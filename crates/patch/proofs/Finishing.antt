@@ -18,8 +18,8 @@ use Rattle.rules.specs.Value.{Ty, most_variables, padded, fit, plus_all}
 use Rattle.rules.specs.Table.{variables, types_of}
 use Rattle.rules.specs.Patch.{Visited, steps_of}
 use Rattle.rules.specs.Call.{Finished, Header, limit_of, inputs_of, outputs_of, within, finish_patch}
-use Rattle.rules.specs.Laws.Call.{length_padded, plus_padded, in_limits_lem}
-use Rattle.rules.specs.Laws.Header.{Sized}
+use Rattle.rules.proofs.Laws.Call.{length_padded, plus_padded, in_limits_lem}
+use Rattle.rules.proofs.Laws.Header.{Sized}
 use Rattle.table.specs.declared.answer.Answer.{Answer}
 use Rattle.table.specs.declared.answer.Store.{Store}
 use Rattle.run.specs.Call.{Answers}

@@ -21,10 +21,10 @@ use Rattle.rules.specs.Tree.{Statement}
 use Rattle.rules.specs.Table.{read_node, ty_of, types_of}
 use Rattle.rules.specs.Run.{Done, holds, if_words, run}
 use Rattle.rules.specs.Patch.{Walked, all_fresh, flipped}
-use Rattle.rules.specs.Laws.Value.{truth_cases}
-use Rattle.rules.specs.Laws.Parts.{part_at}
-use Rattle.rules.specs.Laws.Size.{weight}
-use Rattle.rules.specs.Laws.Store.{Good, length_snapshot}
+use Rattle.rules.proofs.Laws.Value.{truth_cases}
+use Rattle.rules.proofs.Laws.Parts.{part_at}
+use Rattle.rules.proofs.Laws.Size.{weight}
+use Rattle.rules.proofs.Laws.Store.{Good, length_snapshot}
 use Rattle.table.specs.Lists.{list_at}
 use Rattle.table.specs.declared.answer.Refusal.{Refusal}
 use Rattle.table.specs.declared.answer.Outcome.TheVariants.{Accepted, Refused}

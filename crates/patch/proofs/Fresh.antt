@@ -12,9 +12,9 @@ use Rattle.rules.specs.Outcome.{accepted}
 use Rattle.rules.specs.Value.{zeros, most_variables, put, minus_all, snapshot}
 use Rattle.rules.specs.Table.{types_of, statement}
 use Rattle.rules.specs.Patch.{Visited, Turn, steps_of, all_fresh, moved_all}
-use Rattle.rules.specs.Laws.Entry.{Fine}
-use Rattle.rules.specs.Laws.Size.{weight}
-use Rattle.rules.specs.Laws.Store.{Good, length_put}
+use Rattle.rules.proofs.Laws.Entry.{Fine}
+use Rattle.rules.proofs.Laws.Size.{weight}
+use Rattle.rules.proofs.Laws.Store.{Good, length_put}
 use Rattle.table.specs.Lists.{list_at}
 use Rattle.run.specs.Code.{farthest}
 use Rattle.run.specs.Statement.{Known}

@@ -14,10 +14,10 @@ use Rattle.rules.specs.Tree.{Statement, mentions}
 use Rattle.rules.specs.Table.{types_of, statement}
 use Rattle.rules.specs.Run.{Done, iterate, run}
 use Rattle.rules.specs.Patch.{Visited, Walked, Turn, all_fresh, finished, grown, loop, visit, walk}
-use Rattle.rules.specs.Laws.Parts.{part_typed}
-use Rattle.rules.specs.Laws.Size.{weight, bounded_iterate, words_bounded}
-use Rattle.rules.specs.Laws.Store.{Good}
-use Rattle.rules.specs.Laws.Typed.{keeps_iterate, run_keeps}
+use Rattle.rules.proofs.Laws.Parts.{part_typed}
+use Rattle.rules.proofs.Laws.Size.{weight, bounded_iterate, words_bounded}
+use Rattle.rules.proofs.Laws.Store.{Good}
+use Rattle.rules.proofs.Laws.Typed.{keeps_iterate, run_keeps}
 use Rattle.table.specs.Lists.{list_at}
 use Rattle.table.specs.declared.answer.Refusal.{Refusal}
 use Rattle.table.specs.declared.answer.Outcome.TheVariants.{Accepted, Refused}
@@ -38,7 +38,7 @@ use Rattle.pieces.specs.declared.entry.Reached.{Reached}
 use Rattle.patch.proofs.Nodes.{for_tree, list_is, named_of}
 use Rattle.table.specs.Laws.Row.{row_long}
 use Rattle.patch.proofs.Fresh.{from_last, store_fine, store_known, store_is, settled_as, fresh_came}
-use Rattle.rules.specs.Laws.Outcome.{holds_at}
+use Rattle.rules.proofs.Laws.Outcome.{holds_at}
 
 -- so many more iterations run fresh, where none is left of the old
 pub loop_more : (types : List Ty) (body : ℕ → List ℤ → List ℤ → Paper.Outcome Visited) (fresh : ℕ → List ℤ → Paper.Outcome Done) (vs : List ℕ) (t : Turn)

@@ -20,8 +20,8 @@ use Rattle.rules.specs.Value.{Ty, at, fit}
 use Rattle.rules.specs.Table.{variables, types_of}
 use Rattle.rules.specs.Run.{headed, most_steps}
 use Rattle.rules.specs.Call.{Header, header, length_of, limit_of, steps_in, inputs_of, outputs_of}
-use Rattle.rules.specs.Laws.Outcome.{Holds, value, holds_need}
-use Rattle.rules.specs.Laws.Header.{Sized}
+use Rattle.rules.proofs.Laws.Outcome.{Holds, value, holds_need}
+use Rattle.rules.proofs.Laws.Header.{Sized}
 use Rattle.pieces.specs.Unbroken.{Unbroken}
 use Rattle.patch.proofs.Inputs.{many}
 use Rattle.pieces.specs.Laws.Changes.{kept}

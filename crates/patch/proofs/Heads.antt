@@ -16,8 +16,8 @@ use Rattle.rules.specs.Value.{Ty, in_type, at}
 use Rattle.rules.specs.Tree.{Expression}
 use Rattle.rules.specs.Table.{ty_of, types_of, expression}
 use Rattle.rules.specs.Patch.{read, read_in}
-use Rattle.rules.specs.Laws.Parts.{part_at}
-use Rattle.rules.specs.Laws.Size.{operations, few_operators}
+use Rattle.rules.proofs.Laws.Parts.{part_at}
+use Rattle.rules.proofs.Laws.Size.{operations, few_operators}
 use Rattle.table.specs.Lists.{list_at}
 use Rattle.table.specs.Paper.{refusal_for}
 use Rattle.table.specs.declared.answer.Outcome.TheVariants.{Refused}

@@ -19,9 +19,9 @@ use Rattle.numbers.specs.Bounds.{mag_add, mag_sub}
 use Rattle.rules.specs.Value.{Ty, bit, in_type, differ, plus, at, type_of, fit, plus_all}
 use Rattle.rules.specs.Table.{variables, nodes_at, header_length, ty_of, types_of}
 use Rattle.rules.specs.Call.{is_change, legal}
-use Rattle.rules.specs.Laws.Value.{truth_cases}
-use Rattle.rules.specs.Laws.Header.{Sized}
-use Rattle.rules.specs.Laws.Call.{fit_long, fit_good, legal_long}
+use Rattle.rules.proofs.Laws.Value.{truth_cases}
+use Rattle.rules.proofs.Laws.Header.{Sized}
+use Rattle.rules.proofs.Laws.Call.{fit_long, fit_good, legal_long}
 use Rattle.run.specs.Laws.Numbers.{mag_in, word}
 use Rattle.run.specs.Laws.Fitting.{type_by, refuted, types_long, type_at}
 use Rattle.pieces.specs.Change.{Near, AllNear}

@@ -9,7 +9,7 @@ use lib.IntN.{ℤ}
 use Rattle.rules.specs.Value.{unchanged}
 use Rattle.rules.specs.Tree.{Statement, mentions}
 use Rattle.rules.specs.Table.{Kind}
-use Rattle.rules.specs.Laws.Parts.{node_at, statement_of}
+use Rattle.rules.proofs.Laws.Parts.{node_at, statement_of}
 use Rattle.run.specs.Laws.Statements as Run
 use Rattle.run.specs.Laws.Compound.{last_kind}
 use Rattle.patch.specs.Statement.{Inner, Enterable}

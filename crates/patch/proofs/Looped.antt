@@ -13,7 +13,7 @@ use Rattle.rules.specs.Value.{Ty}
 use Rattle.rules.specs.Tree.{Statement, mentions}
 use Rattle.rules.specs.Table.{types_of, statement}
 use Rattle.rules.specs.Patch.{Walked, walk}
-use Rattle.rules.specs.Laws.Parts.{part_at}
+use Rattle.rules.proofs.Laws.Parts.{part_at}
 use Rattle.table.specs.declared.answer.Refusal.{Refusal}
 use Rattle.table.specs.declared.answer.Outcome.TheVariants.{Refused as Stopped}
 use Rattle.run.specs.Laws.Loops.{AsRepeat, as_repeat}

@@ -9,8 +9,8 @@ use lib.ListN.{length, drop}
 use Rattle.rules.specs.Value.{zeros, most_variables}
 use Rattle.rules.specs.Tree.{Statement, node_of, mentions}
 use Rattle.rules.specs.Table.{Node as Bytes, read_node, nodes_at, types_of, statement, Part}
-use Rattle.rules.specs.Laws.Parts.{node_at, part_at}
-use Rattle.rules.specs.Laws.Size.{weight, Small}
+use Rattle.rules.proofs.Laws.Parts.{node_at, part_at}
+use Rattle.rules.proofs.Laws.Size.{weight, Small}
 use Rattle.table.specs.Lists.{list_at, Row}
 use Rattle.run.specs.Code.{farthest}
 use Rattle.run.specs.Statement.{Enterable as RunEnterable}

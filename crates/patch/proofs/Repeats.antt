@@ -16,16 +16,16 @@ use Rattle.rules.specs.Tree.{Statement, mentions}
 use Rattle.rules.specs.Table.{types_of}
 use Rattle.rules.specs.Run.{times, run, repeat_words}
 use Rattle.rules.specs.Patch.{Visited, Walked, Turn, both, steps_of, moved_all, loop, visit, walk}
-use Rattle.rules.specs.Laws.Mentions.{◌⊆◌, repeat_body}
-use Rattle.rules.specs.Laws.Parts.{node_at}
-use Rattle.rules.specs.Laws.Size.{Small}
+use Rattle.rules.proofs.Laws.Mentions.{◌⊆◌, repeat_body}
+use Rattle.rules.proofs.Laws.Parts.{node_at}
+use Rattle.rules.proofs.Laws.Size.{Small}
 use Rattle.table.specs.Lists.{list_at}
 use Rattle.table.specs.declared.answer.Refusal.{Refusal}
 use Rattle.table.specs.declared.answer.Changes.{Changes}
 use Rattle.table.specs.declared.answer.Outcome.TheVariants.{Accepted, Refused}
 use Rattle.run.specs.Laws.Loops.{repeat_laid, repeat_long}
 use Rattle.pieces.specs.Old.{part}
-use Rattle.rules.specs.Laws.Outcome.{accepted_of}
+use Rattle.rules.proofs.Laws.Outcome.{accepted_of}
 use Rattle.patch.specs.Laws.Turns.{joined, loop_turns}
 use Rattle.pieces.specs.Entry.{Sound, Came, Ends, whole, WalkAs, AdvancedBy}
 use Rattle.patch.specs.Statement.{Node}

@@ -22,14 +22,14 @@ use Rattle.rules.specs.Table.{header_length, variables, nodes, nodes_at, types_o
 use Rattle.rules.specs.Run.{most_steps}
 use Rattle.rules.specs.Patch.{Visited, visit, walk}
 use Rattle.rules.specs.Call.{Finished, Header, header, length_of, limit_of, inputs_of, legal, within, finish_patch}
-use Rattle.rules.specs.Laws.Outcome.{Holds, value, holds_bind, holds_need, holds_if, holds_at}
-use Rattle.rules.specs.Laws.Call.{legal_long, length_padded, at_padded, in_limits_lem}
-use Rattle.rules.specs.Laws.Value.{zero_in}
-use Rattle.rules.specs.Laws.Entry.{Fine}
-use Rattle.rules.specs.Laws.Header.{Sized, sized, types_long}
-use Rattle.rules.specs.Laws.Parts.{part_at, through, root_at, part_below}
-use Rattle.rules.specs.Laws.Shallow.{root_small}
-use Rattle.rules.specs.Laws.Size.{weight}
+use Rattle.rules.proofs.Laws.Outcome.{Holds, value, holds_bind, holds_need, holds_if, holds_at}
+use Rattle.rules.proofs.Laws.Call.{legal_long, length_padded, at_padded, in_limits_lem}
+use Rattle.rules.proofs.Laws.Value.{zero_in}
+use Rattle.rules.proofs.Laws.Entry.{Fine}
+use Rattle.rules.proofs.Laws.Header.{Sized, sized, types_long}
+use Rattle.rules.proofs.Laws.Parts.{part_at, through, root_at, part_below}
+use Rattle.rules.proofs.Laws.Shallow.{root_small}
+use Rattle.rules.proofs.Laws.Size.{weight}
 use Rattle.table.specs.Lists.{Lists}
 use Rattle.table.specs.Paper.{reason_of, reason_back}
 use Rattle.table.specs.declared.answer.Refusal.{Refusal}

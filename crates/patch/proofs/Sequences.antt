@@ -16,9 +16,9 @@ use Rattle.rules.specs.Tree.{Statement, node_of, mentions}
 use Rattle.rules.specs.Table.{types_of}
 use Rattle.rules.specs.Run.{opening, most_steps}
 use Rattle.rules.specs.Patch.{Entry, Visited, Walked, Walk, both, steps_of, cut, ends, meet, skipped, paid, visit, walk}
-use Rattle.rules.specs.Laws.Outcome.{Holds, value, vacant, holds_bind, holds_need, holds_any, holds_map, holds_at}
-use Rattle.rules.specs.Laws.Parts.{node_at, part_at}
-use Rattle.rules.specs.Laws.Size.{Small}
+use Rattle.rules.proofs.Laws.Outcome.{Holds, value, vacant, holds_bind, holds_need, holds_any, holds_map, holds_at}
+use Rattle.rules.proofs.Laws.Parts.{node_at, part_at}
+use Rattle.rules.proofs.Laws.Size.{Small}
 use Rattle.table.specs.declared.answer.Refusal.{Refusal}
 use Rattle.table.specs.declared.answer.Outcome.TheVariants.{Accepted, Refused}
 use Rattle.run.specs.Laws.Sequences.{AsSequence, as_sequence, both_small}

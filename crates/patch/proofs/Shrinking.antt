@@ -15,7 +15,7 @@ use Rattle.rules.specs.Value.{Ty, at, zeros, most_variables, put, minus_all, sna
 use Rattle.rules.specs.Table.{types_of}
 use Rattle.rules.specs.Run.{run}
 use Rattle.rules.specs.Patch.{Walked, Snapshot, no_steps, all_fresh, read_snapshot, last_snapshot, shrunk, walk}
-use Rattle.rules.specs.Laws.Size.{weight}
+use Rattle.rules.proofs.Laws.Size.{weight}
 use Rattle.table.specs.Lists.{list_at}
 use Rattle.table.specs.Paper.{refusal_for}
 use Rattle.table.specs.declared.answer.Refusal.{Refusal}

@@ -12,8 +12,8 @@ use Rattle.rules.specs.Value.{Ty, padded, fit, plus_all}
 use Rattle.rules.specs.Table.{types_of, Program, check}
 use Rattle.rules.specs.Patch.{Visited}
 use Rattle.rules.specs.Call.{Finished, Header, header, inputs_of, legal, answered, within, finish_patch, call_check, call_patch, IsCheck, IsPatch}
-use Rattle.rules.specs.Laws.Answer.{number_injective}
-use Rattle.rules.specs.Laws.Parts.{through}
+use Rattle.rules.proofs.Laws.Answer.{number_injective}
+use Rattle.rules.proofs.Laws.Parts.{through}
 use Rattle.table.specs.Paper.{number_of, answer_of, reason_of}
 use Rattle.table.specs.declared.answer.Refusal.{Refusal}
 use Rattle.table.specs.declared.answer.Refusal.TheVariants.{Change, Broken}
@@ -25,7 +25,7 @@ use Rattle.run.specs.Laws.Tests.{refused_some, accepted_of, stays}
 use Rattle.patch.specs.Call.{Ready, tests, Tested, Startable, root_visit, finished, PatchAnswers}
 use Rattle.pieces.specs.Unbroken.{Unbroken}
 use Rattle.patch.proofs.Headers.{Whole, header_whole}
-use Rattle.rules.specs.Laws.Outcome.{holds_at}
+use Rattle.rules.proofs.Laws.Outcome.{holds_at}
 
 -- what the test of the changes makes of a program and a header
 abbrev decided : Program → Header → Bool → Paper.Outcome Ready

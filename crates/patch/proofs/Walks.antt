@@ -11,7 +11,7 @@ use Rattle.numbers.specs.Lay.{lay, lay_append}
 use Rattle.rules.specs.Outcome.{accepted, refused, ◌>>=◌}
 use Rattle.rules.specs.Outcome as Paper
 use Rattle.rules.specs.Patch.{Visited, steps_of, both}
-use Rattle.rules.specs.Laws.Size.{weight}
+use Rattle.rules.proofs.Laws.Size.{weight}
 use Rattle.table.specs.declared.answer.Refusal.{Refusal}
 use Rattle.table.specs.declared.answer.Changes.{Changes}
 use Rattle.table.specs.declared.answer.Outcome.TheVariants.{Accepted, Refused}

@@ -10,7 +10,7 @@ use Rattle.rules.specs.Tree.{Expression, Statement, if, mentions}
 use Rattle.rules.specs.Table.{types_of, statement}
 use Rattle.rules.specs.Run.{holds, run}
 use Rattle.rules.specs.Patch.{Fork, read_snapshot, shift, kept, flipped, visit, walk}
-use Rattle.rules.specs.Laws.Parts.{part_at}
+use Rattle.rules.proofs.Laws.Parts.{part_at}
 use Rattle.table.specs.Paper.{refusal_for}
 use Rattle.pieces.specs.Old.{part}
 use Rattle.pieces.specs.Entry.{WalkAs}

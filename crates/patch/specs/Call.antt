@@ -9,7 +9,7 @@ use Rattle.rules.specs.Table.{variables, types_of, Program, check}
 use Rattle.rules.specs.Run.{record_of}
 use Rattle.rules.specs.Patch.{Visited, steps_of, visit, walk}
 use Rattle.rules.specs.Call.{Finished, Header, header, length_of, limit_of, is_change, legal, finish_patch, within}
-use Rattle.rules.specs.Laws.Header.{Sized}
+use Rattle.rules.proofs.Laws.Header.{Sized}
 use Rattle.table.specs.Paper.{number_of}
 use Rattle.table.specs.declared.answer.Answer.{Answer}
 use Rattle.table.specs.declared.answer.Outcome.{Outcome}

@@ -11,8 +11,8 @@ use Rattle.rules.specs.Table.{types_of, statement}
 use Rattle.rules.specs.Run.{times, run, repeat_words}
 use Rattle.rules.specs.Patch.{Visited, Walked, Counts, no_steps, both, steps_of, Turn, moved_all, shrunk, loop, visit, walk}
 use Rattle.rules.specs.Patch as Rules
-use Rattle.rules.specs.Laws.Mentions.{◌⊆◌}
-use Rattle.rules.specs.Laws.Parts.{part_at}
+use Rattle.rules.proofs.Laws.Mentions.{◌⊆◌}
+use Rattle.rules.proofs.Laws.Parts.{part_at}
 use Rattle.table.specs.Lists.{list_at}
 use Rattle.table.specs.Paper.{refusal_for}
 use Rattle.pieces.specs.Old.{part}

@@ -6,7 +6,7 @@ use Rattle.rules.specs.Value.{zeros, most_variables, unchanged}
 use Rattle.rules.specs.Tree.{Statement, node_of, mentions}
 use Rattle.rules.specs.Table.{types_of, statement}
 use Rattle.rules.specs.Patch.{Entry, paid, visit, walk}
-use Rattle.rules.specs.Laws.Parts.{node_at, part_at}
+use Rattle.rules.proofs.Laws.Parts.{node_at, part_at}
 use Rattle.run.specs.Statement.{Known}
 use Rattle.pieces.specs.Old.{part, Inside}
 use Rattle.pieces.specs.Entry.{Sound, VisitAs, WalkAs}

@@ -5,7 +5,7 @@ ghost use Rattle.rules.specs.Value.{in_type};
 ghost use Rattle.rules.specs.Table.{ty_of, types_of};
 ghost use Rattle.rules.specs.Call;
 ghost use Rattle.rules.specs.Call.{header};
-ghost use Rattle.rules.specs.Laws.Header.{Sized};
+ghost use Rattle.rules.proofs.Laws.Header.{Sized};
 ghost use Rattle.patch.specs.Call.{legal_change, Sums};
 ghost use Rattle.pieces.specs.Unbroken.{Unbroken};
 

@@ -17,7 +17,7 @@ use Rattle.rules.specs.Table.{u16, variables, Program, check}
 use Rattle.rules.specs.Outcome.{accepted, choose}
 use Rattle.rules.specs.Value.{at}
 use Rattle.rules.specs.Call.{Called, IsCheck, call_check, IsRun, call_run, IsPatch, call_patch}
-use Rattle.rules.specs.Laws.Header.{Sized, sized}
+use Rattle.rules.proofs.Laws.Header.{Sized, sized}
 use Rattle.table.specs.Paper.{number_of, answer_of}
 use Rattle.table.specs.Laws.Tests.{here, later, keep}
 use Rattle.table.specs.declared.answer.Answer.{Answer}

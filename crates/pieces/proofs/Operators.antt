@@ -16,8 +16,8 @@ use Rattle.rules.specs.Table.{expression}
 use Rattle.rules.specs.Run.{compute}
 use Rattle.rules.specs.Patch as Rules
 use Rattle.rules.specs.Patch.{shift}
-use Rattle.rules.specs.Laws.Parts.{node_at, part_at}
-use Rattle.rules.specs.Laws.Size.{operations}
+use Rattle.rules.proofs.Laws.Parts.{node_at, part_at}
+use Rattle.rules.proofs.Laws.Size.{operations}
 use Rattle.table.specs.Paper.{refusal_for}
 use Rattle.table.specs.declared.answer.Refusal.{Refusal}
 use Rattle.run.specs.Code.{Number, farthest, IsOperator}
@@ -34,7 +34,7 @@ use Rattle.pieces.specs.declared.expression.Shifted.TheVariants.{Is, Refused}
 use Rattle.pieces.proofs.Recalling.{Remembered, remembered, are_broken}
 use Rattle.pieces.specs.Laws.Shifts.{handed_up, Got, got, evaluable}
 use Rattle.pieces.specs.Laws.Changes.{near_kept, kept}
-use Rattle.rules.specs.Laws.Outcome.{holds_at}
+use Rattle.rules.proofs.Laws.Outcome.{holds_at}
 
 -- ---- an operator's answer
 

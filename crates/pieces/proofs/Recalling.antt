@@ -15,7 +15,7 @@ use Rattle.rules.specs.Tree.{Operator, gives, apply}
 use Rattle.rules.specs.Table.{operator, ty_of}
 use Rattle.rules.specs.Run.{compute}
 use Rattle.rules.specs.Patch.{read, read_in}
-use Rattle.rules.specs.Laws.Parts.{number_of_kind}
+use Rattle.rules.proofs.Laws.Parts.{number_of_kind}
 use Rattle.table.specs.Paper.{refusal_for}
 use Rattle.run.specs.declared.number.Computed.{Computed}
 use Rattle.run.specs.declared.number.Computed.TheVariants.{Is as Result, Outside}
@@ -31,7 +31,7 @@ use Rattle.pieces.specs.declared.expression.Recalled.{Recalled as Answer}
 use Rattle.pieces.specs.declared.expression.Recalled.TheVariants.{Are, Broken}
 use Rattle.pieces.specs.declared.expression.Shifted.TheVariants.{Is, Refused}
 use Rattle.pieces.specs.Laws.Changes.{kept, near_kept, chosen_in, chosen_out}
-use Rattle.rules.specs.Laws.Outcome.{holds_at}
+use Rattle.rules.proofs.Laws.Outcome.{holds_at}
 
 -- ---- a number that was computed, or none
 

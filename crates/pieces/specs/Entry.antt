@@ -5,7 +5,7 @@ use Rattle.numbers.specs.Lay.{lay}
 use Rattle.rules.specs.Outcome.{accepted, refused, choose, broken}
 use Rattle.rules.specs.Outcome as Paper
 use Rattle.rules.specs.Patch.{Entry, Visited, Walked, steps_of, skipped}
-use Rattle.rules.specs.Laws.Size.{weight}
+use Rattle.rules.proofs.Laws.Size.{weight}
 use Rattle.table.specs.Paper.{refusal_for}
 use Rattle.table.specs.declared.answer.Outcome.TheVariants.{Accepted, Refused}
 use Rattle.run.specs.Code.{farthest}

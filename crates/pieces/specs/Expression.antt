@@ -11,8 +11,8 @@ use Rattle.rules.specs.Table.{operator, ty_of, nodes_at, expression, Program, ch
 use Rattle.rules.specs.Run.{compute}
 use Rattle.rules.specs.Patch as Rules
 use Rattle.rules.specs.Patch.{read_in, moved, shift}
-use Rattle.rules.specs.Laws.Parts.{number_of_kind, part_at}
-use Rattle.rules.specs.Laws.Size.{operations}
+use Rattle.rules.proofs.Laws.Parts.{number_of_kind, part_at}
+use Rattle.rules.proofs.Laws.Size.{operations}
 use Rattle.table.specs.Paper.{refusal_for}
 use Rattle.run.specs.Code.{farthest}
 use Rattle.pieces.specs.Change.{AllNear}

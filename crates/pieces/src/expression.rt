@@ -5,7 +5,7 @@ ghost use Rattle.run.specs.Code.{Number, farthest, IsOperator};
 ghost use Rattle.pieces.specs.Change.{Near};
 ghost use Rattle.pieces.specs.Old.{Inside};
 ghost use Rattle.pieces.specs.Expression.{Recalls, Gives, Operates, Settles, Shiftable, ShiftsTo, OperandTo};
-ghost use Rattle.rules.specs.Laws.Parts.{node_at};
+ghost use Rattle.rules.proofs.Laws.Parts.{node_at};
 ghost use Rattle.pieces.specs.declared.expression.Recalled.TheVariants.{Are};
 
 use crate::change::{minus, moved};

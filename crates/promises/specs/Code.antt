@@ -11,7 +11,7 @@ use Rattle.rules.specs.Value.{Ty, plus_all}
 use Rattle.rules.specs.Table.{Program, check}
 use Rattle.rules.specs.Call as Paper
 use Rattle.rules.specs.Call.{Called, call_run, call_patch, limit_of, inputs_of, outputs_of, legal, IsRun, IsPatch}
-use Rattle.rules.specs.Laws.Answer.{record_in, number_some, number_injective}
+use Rattle.rules.proofs.Laws.Answer.{record_in, number_some, number_injective}
 use Rattle.table.specs.Paper.{reason_of, refusal_for, number_of, answer_of}
 use Rattle.table.specs.declared.answer.Refusal.{Refusal}
 use Rattle.table.specs.declared.answer.Refusal.TheVariants.{Header, Types, Node, Use, Depth, Store, Limit, Range, Fuel, Room, Change, Broken}

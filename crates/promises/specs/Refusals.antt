@@ -16,10 +16,10 @@ use Rattle.rules.specs.Table.{check_header, check_types, type_bytes, types_of, n
 use Rattle.rules.specs.Run.{most_steps, Done, run, record_of}
 use Rattle.rules.specs.Patch.{Counts, steps_of, no_steps, all_fresh, Visited, visit, walk}
 use Rattle.rules.specs.Call.{Called, Finished, within, answered, call_check, finish_run, call_run, Header, header, legal, finish_patch, call_patch}
-use Rattle.rules.specs.Laws.Outcome.{Holds, value, holds_bind, holds_need, holds_any, holds_of}
-use Rattle.rules.specs.Laws.Mentions.{◌∈◌}
-use Rattle.rules.specs.Laws.Answer.{Accepted, record_in, Ended, accepted_end}
-use Rattle.rules.specs.Laws.Whole.{only_of, check_header_only, check_types_only, nodes_only, root_only, uses_only, check_only, run_only, visit_only, header_only, Request, in_room, finish, room_decides, Opens, finish_opens, Ends, stopped, short, fits, ends_so, accepted_number}
+use Rattle.rules.proofs.Laws.Outcome.{Holds, value, holds_bind, holds_need, holds_any, holds_of}
+use Rattle.rules.proofs.Laws.Mentions.{◌∈◌}
+use Rattle.rules.proofs.Laws.Answer.{Accepted, record_in, Ended, accepted_end}
+use Rattle.rules.proofs.Laws.Whole.{only_of, check_header_only, check_types_only, nodes_only, root_only, uses_only, check_only, run_only, visit_only, header_only, Request, in_room, finish, room_decides, Opens, finish_opens, Ends, stopped, short, fits, ends_so, accepted_number}
 
 -- ---- what a call leaves
 

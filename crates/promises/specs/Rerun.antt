@@ -13,10 +13,10 @@ use Rattle.rules.specs.Table.{Program, check}
 use Rattle.rules.specs.Run.{headed, record_of}
 use Rattle.rules.specs.Patch.{steps_of, no_steps}
 use Rattle.rules.specs.Call.{Answer, Called, Finished, within, answered, finish_run, call_run, limit_of, inputs_of, outputs_of, legal, finish_patch, call_patch}
-use Rattle.rules.specs.Laws.Outcome.{Holds, holds_of, Alike, values, refusals}
-use Rattle.rules.specs.Laws.Answer.{number_some, Accepted, record_in, Ended, accepted_end, record_back}
-use Rattle.rules.specs.Laws.Call.{Names}
-use Rattle.rules.specs.Laws.Rerun.{Made, Again, named, finished, run_made, patch_made, patch_follows}
+use Rattle.rules.proofs.Laws.Outcome.{Holds, holds_of, Alike, values, refusals}
+use Rattle.rules.proofs.Laws.Answer.{number_some, Accepted, record_in, Ended, accepted_end, record_back}
+use Rattle.rules.proofs.Laws.Call.{Names}
+use Rattle.rules.proofs.Laws.Rerun.{Made, Again, named, finished, run_made, patch_made, patch_follows}
 
 -- ---- what the statement speaks of
 

@@ -16,15 +16,15 @@ use Rattle.rules.specs.Run.{Done, most_steps, run, record_of}
 use Rattle.rules.specs.Published.{Executes}
 use Rattle.rules.specs.Patch.{steps_of, all_fresh}
 use Rattle.rules.specs.Call.{Answer, Called, Finished, within, answered, finish_run, call_run}
-use Rattle.rules.specs.Laws.Outcome.{Holds, value, holds_bind, holds_need, holds_of, holds_if, holds_both}
-use Rattle.rules.specs.Laws.Answer.{Accepted, Ended, accepted_end}
+use Rattle.rules.proofs.Laws.Outcome.{Holds, value, holds_bind, holds_need, holds_of, holds_if, holds_both}
+use Rattle.rules.proofs.Laws.Answer.{Accepted, Ended, accepted_end}
 use Rattle.rules.specs.Tree.{mentions}
-use Rattle.rules.specs.Laws.Typed.{Kept, run_keeps}
-use Rattle.rules.specs.Laws.Entry.{Fine, steps_within}
-use Rattle.rules.specs.Laws.Table.{Sound, check_sound}
-use Rattle.rules.specs.Laws.Call.{take_padded, padded_fine}
-use Rattle.rules.specs.Laws.Run.{split}
-use Rattle.rules.specs.Laws.Published.{run_derived, Ran, derived_run}
+use Rattle.rules.proofs.Laws.Typed.{Kept, run_keeps}
+use Rattle.rules.proofs.Laws.Entry.{Fine, steps_within}
+use Rattle.rules.proofs.Laws.Table.{Sound, check_sound}
+use Rattle.rules.proofs.Laws.Call.{take_padded, padded_fine}
+use Rattle.rules.proofs.Laws.Run.{split}
+use Rattle.rules.proofs.Laws.Published.{run_derived, Ran, derived_run}
 
 -- a derivation of the published rules for a program: from these inputs to these outputs, with so many statements, within the limit
 pub record Derived (p : Program) (inputs : List ℤ) (limit : ℤ) (outputs : List ℤ) (steps : ℕ) : Type 0 where

@@ -12,7 +12,7 @@ use Rattle.rules.specs.Table.{check}
 use Rattle.rules.specs.Run.{Done, evaluate, enter, holds, if_words, repeat_words, run}
 use Rattle.rules.specs.Patch.{meet, skipped, paid, visit, Walked, Visited, Walk, Turn, read_in, read_snapshot, moved_all, moved, shift, last_snapshot, no_steps, shrunk, walk}
 use Rattle.rules.specs.Computing.{computing}
-use Rattle.rules.specs.Laws.Store.{difference}
+use Rattle.rules.proofs.Laws.Store.{difference}
 use Rattle.promises.specs.Marked.{program_p, record_p}
 
 -- what a run and a visit end with; nothing where they refuse

@@ -7,7 +7,7 @@ use Rattle.rules.specs.Computing.{computing}
 use Rattle.rules.specs.Value.{at, zeros}
 use Rattle.rules.specs.Patch.{Counts}
 use Rattle.rules.specs.Call.{Answer, Called, call_run, call_patch}
-use Rattle.rules.specs.Laws.Answer.{record_in}
+use Rattle.rules.proofs.Laws.Answer.{record_in}
 use Rattle.promises.specs.Marked.{program_p, record_p}
 use Rattle.promises.specs.Rerun.{Left, by_run, by_patch}
 

@@ -21,13 +21,13 @@ use Rattle.rules.specs.Value.{Ty, at, zeros, padded, fit}
 use Rattle.rules.specs.Table.{check}
 use Rattle.rules.specs.Run.{headed, most_steps, run, record_of}
 use Rattle.rules.specs.Call.{Finished, within, answered, finish_run, call_run, length_of, limit_of, steps_in, inputs_of, outputs_of, Header, header, finish_patch, call_patch}
-use Rattle.rules.specs.Laws.Outcome.{Holds, value, holds_bind, holds_need, holds_of, holds_if}
-use Rattle.rules.specs.Laws.Mentions.{◌∈◌}
-use Rattle.rules.specs.Laws.Run.{split}
-use Rattle.rules.specs.Laws.Entry.{costs_of, steps_within}
-use Rattle.rules.specs.Laws.Call.{in_limits_lem}
-use Rattle.rules.specs.Laws.Answer.{Accepted, Ended, accepted_end}
-use Rattle.rules.specs.Laws.Whole.{only_of, member_listed, of_finish, finish_only, Request, in_room, finish, room_decides, fitting, too_long, Ends, stopped, short, fits, ends_so, refused_number, accepted_number}
+use Rattle.rules.proofs.Laws.Outcome.{Holds, value, holds_bind, holds_need, holds_of, holds_if}
+use Rattle.rules.proofs.Laws.Mentions.{◌∈◌}
+use Rattle.rules.proofs.Laws.Run.{split}
+use Rattle.rules.proofs.Laws.Entry.{costs_of, steps_within}
+use Rattle.rules.proofs.Laws.Call.{in_limits_lem}
+use Rattle.rules.proofs.Laws.Answer.{Accepted, Ended, accepted_end}
+use Rattle.rules.proofs.Laws.Whole.{only_of, member_listed, of_finish, finish_only, Request, in_room, finish, room_decides, fitting, too_long, Ends, stopped, short, fits, ends_so, refused_number, accepted_number}
 
 -- ---- words behind the record
 

@@ -5,7 +5,7 @@
 use Rattle.std.specs.Prelude.{◌≡◌, ℕ, List, length, ℤ}
 use Rattle.std.proofs.Common.{sym, ap, ◌∙◌}
 use Rattle.rules.specs.Call.{Answer, call_run, call_patch, IsCheck, IsRun, IsPatch}
-use Rattle.rules.specs.Laws.Whole.{Request, to_run, to_patch, in_room, room_decides, finish, buffer_long}
+use Rattle.rules.proofs.Laws.Whole.{Request, to_run, to_patch, in_room, room_decides, finish, buffer_long}
 
 -- ---- two answers are equal
 

@@ -7,4 +7,3 @@ pub mod Published
 pub mod Patch
 pub mod Call
 pub mod Computing
-pub mod Laws

@@ -8,9 +8,9 @@ use Rattle.rules.specs.Value.{Ty, in_type}
 use Rattle.rules.specs.Tree.{Operator, Expression, gives, apply}
 use Rattle.rules.specs.Table.{operator, nodes_at, types_of, expression, Program, check}
 use Rattle.rules.specs.Run.{Valued, evaluate}
-use Rattle.rules.specs.Laws.Parts.{number_of_kind, node_at, part_at}
-use Rattle.rules.specs.Laws.Size.{operations}
-use Rattle.rules.specs.Laws.Store.{Good}
+use Rattle.rules.proofs.Laws.Parts.{number_of_kind, node_at, part_at}
+use Rattle.rules.proofs.Laws.Size.{operations}
+use Rattle.rules.proofs.Laws.Store.{Good}
 use Rattle.table.specs.Paper.{refusal_for}
 use Rattle.run.specs.declared.number.Computed.{Computed}
 use Rattle.run.specs.declared.number.Computed.TheVariants.{Is as Result, Outside}

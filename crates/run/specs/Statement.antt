@@ -10,11 +10,11 @@ use Rattle.rules.specs.Outcome as Paper
 use Rattle.rules.specs.Tree.{Expression, Statement, if, mentions}
 use Rattle.rules.specs.Table.{nodes_at, types_of, statement, Program, check}
 use Rattle.rules.specs.Run.{Done, holds, iterate, run}
-use Rattle.rules.specs.Laws.Mentions.{◌⊆◌}
-use Rattle.rules.specs.Laws.Entry.{Fine}
-use Rattle.rules.specs.Laws.Inside.{inside}
-use Rattle.rules.specs.Laws.Parts.{node_at, part_at}
-use Rattle.rules.specs.Laws.Size.{weight, Small}
+use Rattle.rules.proofs.Laws.Mentions.{◌⊆◌}
+use Rattle.rules.proofs.Laws.Entry.{Fine}
+use Rattle.rules.proofs.Laws.Inside.{inside}
+use Rattle.rules.proofs.Laws.Parts.{node_at, part_at}
+use Rattle.rules.proofs.Laws.Size.{weight, Small}
 use Rattle.table.specs.Lists.{Lists}
 use Rattle.table.specs.Paper.{refusal_for}
 use Rattle.table.specs.declared.answer.Outcome.TheVariants.{Accepted, Refused}

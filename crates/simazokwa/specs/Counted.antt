@@ -16,9 +16,9 @@ use Rattle.rules.specs.Table.{check}
 use Rattle.rules.specs.Run.{Done, headed, holds, times, iterate, most_steps, run}
 use Rattle.rules.specs.Patch.{steps_of, no_steps, both, one_walked, all_reused, all_fresh, Entry, Visited, Walk, Fork, Turn, read_in, moved, shift, finished, meet, skipped, paid, visit, read_snapshot, moved_all, kept, flipped, last_snapshot, complete, grown, shrunk, loop, walk}
 use Rattle.rules.specs.Call.{Finished, within, answered, call_run, call_patch, finish_run, finish_patch, header, legal, limit_of, length_of, steps_in, inputs_of, outputs_of}
-use Rattle.rules.specs.Laws.Outcome.{Holds, value, vacant, holds_here, holds_bind, holds_need, holds_any, holds_if}
-use Rattle.rules.specs.Laws.Entry.{steps_within}
-use Rattle.rules.specs.Laws.Call.{in_limits_lem}
+use Rattle.rules.proofs.Laws.Outcome.{Holds, value, vacant, holds_here, holds_bind, holds_need, holds_any, holds_if}
+use Rattle.rules.proofs.Laws.Entry.{steps_within}
+use Rattle.rules.proofs.Laws.Call.{in_limits_lem}
 use Rattle.simazokwa.specs.Words.{IsWord, Tellable}
 
 -- ---- what was left when it began is enough

@@ -10,10 +10,10 @@ use Rattle.std.proofs.Math.ListN.{get_or, drop}
 use Rattle.std.proofs.Math.Seq.{get_or-take, drop-length}
 use Rattle.rules.specs.Table.{byte, u16, variables, nodes, types_of, Part}
 use Rattle.rules.specs.Tree.{insert}
-use Rattle.rules.specs.Laws.Parts.{part_at, part_below}
-use Rattle.rules.specs.Laws.Header.{Sized, sized, types_long}
-use Rattle.rules.specs.Laws.Rising.{rising, rising_first, flagged, flagged_by, together, length_flagged_by, rising_together, insert_rising, Below, rises_below, rises_short}
-use Rattle.rules.specs.Laws.Variables.{vars_at, vars_at_lem, rises_node, place_of, fields, places, names, with_own, Mentioning, mentioning}
+use Rattle.rules.proofs.Laws.Parts.{part_at, part_below}
+use Rattle.rules.proofs.Laws.Header.{Sized, sized, types_long}
+use Rattle.rules.proofs.Laws.Rising.{rising, rising_first, flagged, flagged_by, together, length_flagged_by, rising_together, insert_rising, Below, rises_below, rises_short}
+use Rattle.rules.proofs.Laws.Variables.{vars_at, vars_at_lem, rises_node, place_of, fields, places, names, with_own, Mentioning, mentioning}
 use Rattle.table.specs.Accepted.{AcceptedTable}
 use Rattle.table.specs.Lists.{list_at, Row, ListOf, Lists}
 use Rattle.table.specs.Laws.Row.{list_long, list_at_lem}

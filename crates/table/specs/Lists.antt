@@ -4,7 +4,7 @@
 use Rattle.std.specs.Prelude.{◌≡◌, ℕ, ◌+◌, ◌*◌, ◌≤◌, ◌<◌, List, length, get_or, take, drop}
 use Rattle.std.proofs.Math.Option.{some}
 use Rattle.rules.specs.Table.{types_of, Part}
-use Rattle.rules.specs.Laws.Parts.{part_at, vars_of}
+use Rattle.rules.proofs.Laws.Parts.{part_at, vars_of}
 
 -- the list of node n
 unfoldable pub list_at : List ℕ → ℕ → List ℕ

@@ -8,7 +8,7 @@ use mathlib.Core.List.{List, [], ◌∷◌, ◌++◌, append_assoc, append-nil}
 use Rattle.std.proofs.Math.ListN.{length, get_or, take, drop, set}
 use Rattle.std.proofs.lemmas.List.Edits.{sets, sets-eq}
 use Rattle.std.proofs.Math.Seq.{length-sets, get_or-set_same, take-take, take-nil, take_at, drop_at, take-set-le, drop-set-lt}
-use Rattle.rules.specs.Laws.Rising.{rising, rising_take, alone}
+use Rattle.rules.proofs.Laws.Rising.{rising, rising_take, alone}
 use Rattle.table.specs.Lists.{list_at}
 
 -- the list of a node written into its row

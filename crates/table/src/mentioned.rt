@@ -1,8 +1,8 @@
 // The variables that each node mentions, computed once for all nodes in rising node order, so that a snapshot or a skip test
 // goes over a short list.
 ghost use Rattle.std.specs.Prelude.{◌≡◌, ◌+◌, ◌*◌, ◌<◌, ◌≤◌, length, get_or, take};
-ghost use Rattle.rules.specs.Laws.Rising.{rising, flagged, flagged_by};
-ghost use Rattle.rules.specs.Laws.Variables.{vars_at, names, places, place_of, fields};
+ghost use Rattle.rules.proofs.Laws.Rising.{rising, flagged, flagged_by};
+ghost use Rattle.rules.proofs.Laws.Variables.{vars_at, names, places, place_of, fields};
 ghost use Rattle.table.specs.Accepted.{AcceptedTable};
 ghost use Rattle.table.specs.Lists.{list_at, Row, Lists};
 ghost use Rattle.table.specs.Rows.{laid};

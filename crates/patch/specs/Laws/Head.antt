@@ -13,8 +13,8 @@ use Rattle.rules.specs.Value.{Ty, at, in_type}
 use Rattle.rules.specs.Tree.{Expression}
 use Rattle.rules.specs.Table.{types_of}
 use Rattle.rules.specs.Patch.{Read, Shifted, Fork, read, read_in, read_snapshot, moved_all, shift}
-use Rattle.rules.specs.Laws.Outcome.{refused_accepted, accepted_of, through, holds_at}
-use Rattle.rules.specs.Laws.Size.{operations}
+use Rattle.rules.proofs.Laws.Outcome.{refused_accepted, accepted_of, through, holds_at}
+use Rattle.rules.proofs.Laws.Size.{operations}
 use Rattle.table.specs.Lists.{list_at}
 use Rattle.pieces.specs.Change.{Near, AllNear}
 use Rattle.pieces.specs.Old.{part, Inside}

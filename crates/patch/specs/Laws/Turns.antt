@@ -14,7 +14,7 @@ use Rattle.rules.specs.Value.{Ty}
 use Rattle.rules.specs.Tree.{Expression, Statement, if, repeat, mentions}
 use Rattle.rules.specs.Run.{Done, holds, run}
 use Rattle.rules.specs.Patch.{Visited, Walked, Counts, Turn, Fork, no_steps, both, steps_of, read_in, read_snapshot, moved_all, moved, shift, kept, flipped, loop, visit, walk}
-use Rattle.rules.specs.Laws.Outcome.{bind_assoc, bind_same}
+use Rattle.rules.proofs.Laws.Outcome.{bind_assoc, bind_same}
 use Rattle.pieces.specs.Snapshot.{patched}
 use Rattle.pieces.specs.Expression.{operand_of}
 use Rattle.patch.specs.Head.{head_of}

@@ -9,8 +9,8 @@ use Rattle.std.proofs.Math.Dec.{is_le, compare_is_eq}
 use Rattle.rules.specs.Value.{at, put, snapshot}
 use Rattle.rules.specs.Tree.{Expression, constant, variable, operation, Statement, skip, assign, sequence, if, repeat, among, insert, union, reads, mentions}
 use Rattle.rules.specs.Table.{Part, expression, statement}
-use Rattle.rules.specs.Laws.Parts.{vars_of}
-use Rattle.rules.specs.Laws.Rising.{Below, below_head, below_tail}
+use Rattle.rules.proofs.Laws.Parts.{vars_of}
+use Rattle.rules.proofs.Laws.Rising.{Below, below_head, below_tail}
 
 -- they rise, and none is below k
 pub data Climbs : ℕ → List ℕ → Type 0 where

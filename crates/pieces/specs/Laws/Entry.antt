@@ -14,8 +14,8 @@ use Rattle.rules.specs.Outcome.{Outcome, accepted, refused, ◌>>=◌, need, bro
 use Rattle.rules.specs.Value.{at}
 use Rattle.rules.specs.Run.{most_steps}
 use Rattle.rules.specs.Patch.{Cut, cut, ends, meet}
-use Rattle.rules.specs.Laws.Call.{in_limits_lem}
-use Rattle.rules.specs.Laws.Entry.{cut_back}
+use Rattle.rules.proofs.Laws.Call.{in_limits_lem}
+use Rattle.rules.proofs.Laws.Entry.{cut_back}
 use Rattle.pieces.specs.Old.{part, Inside}
 use Rattle.pieces.specs.Laws.Old.{part_long, part_none, part_next, part_split}
 use Rattle.pieces.specs.Entry.{ends_at, MetAs}

@@ -10,9 +10,9 @@ use Rattle.rules.specs.Value.{Ty, in_type, plus, minus, differ, bit, at}
 use Rattle.rules.specs.Tree.{Operator, Expression, constant, variable, operation, gives}
 use Rattle.rules.specs.Run.{compute}
 use Rattle.rules.specs.Patch.{Read, Shifted, read, read_in, moved, shift}
-use Rattle.rules.specs.Laws.Outcome.{Holds, value, vacant, holds_bind, holds_need, holds_any}
-use Rattle.rules.specs.Laws.Size.{operations}
-use Rattle.rules.specs.Laws.Typed.{computed}
+use Rattle.rules.proofs.Laws.Outcome.{Holds, value, vacant, holds_bind, holds_need, holds_any}
+use Rattle.rules.proofs.Laws.Size.{operations}
+use Rattle.rules.proofs.Laws.Typed.{computed}
 use Rattle.run.specs.Laws.Expressions.{mag_of_type}
 use Rattle.pieces.specs.Change.{Near, AllNear}
 use Rattle.pieces.specs.Expression.{Recall, recall, operand_of, settle_of}

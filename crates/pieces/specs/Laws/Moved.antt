@@ -12,10 +12,10 @@ use Rattle.numbers.specs.Laws.{decide}
 use Rattle.rules.specs.Outcome.{accepted}
 use Rattle.rules.specs.Value.{Ty, at, type_of, in_type, plus, zeros, most_variables, put}
 use Rattle.rules.specs.Patch.{moved, moved_all}
-use Rattle.rules.specs.Laws.Outcome.{Holds, value, vacant, holds_bind, holds_of}
-use Rattle.rules.specs.Laws.Value.{zero_in}
-use Rattle.rules.specs.Laws.Store.{Good, length_put}
-use Rattle.rules.specs.Laws.Entry.{Fine}
+use Rattle.rules.proofs.Laws.Outcome.{Holds, value, vacant, holds_bind, holds_of}
+use Rattle.rules.proofs.Laws.Value.{zero_in}
+use Rattle.rules.proofs.Laws.Store.{Good, length_put}
+use Rattle.rules.proofs.Laws.Entry.{Fine}
 use Rattle.pieces.specs.Snapshot.{plus_each}
 
 -- words that took their changes, each in its type

@@ -11,10 +11,10 @@ use Rattle.rules.specs.Tree.{Operator, Expression}
 use Rattle.rules.specs.Table.{Node, read_node, constant_of, Kind, number_constant, truth_constant, variable, operator, skip, assign, sequence, if, repeat, ty_of, types_of, expression}
 use Rattle.rules.specs.Patch as Rules
 use Rattle.rules.specs.Patch.{moved, shift}
-use Rattle.rules.specs.Laws.Outcome.{Holds, holds_of, holds_at}
-use Rattle.rules.specs.Laws.Parts.{number_of_kind, node_at, part_at, parts_of, Built, stands, stands_as}
-use Rattle.rules.specs.Laws.Size.{operations}
-use Rattle.rules.specs.Laws.Value.{zero_in}
+use Rattle.rules.proofs.Laws.Outcome.{Holds, holds_of, holds_at}
+use Rattle.rules.proofs.Laws.Parts.{number_of_kind, node_at, part_at, parts_of, Built, stands, stands_as}
+use Rattle.rules.proofs.Laws.Size.{operations}
+use Rattle.rules.proofs.Laws.Value.{zero_in}
 use Rattle.table.specs.Paper.{refusal_for}
 use Rattle.table.specs.declared.answer.Refusal.{Refusal}
 use Rattle.run.specs.declared.number.Computed.{Computed}

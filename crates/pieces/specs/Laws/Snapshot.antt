@@ -14,11 +14,11 @@ use Rattle.rules.specs.Outcome.{accepted}
 use Rattle.rules.specs.Value.{Ty, at, type_of, in_type, bit, differ, minus, zeros, most_variables, put, minus_all, snapshot}
 use Rattle.rules.specs.Table.{types_of, Part}
 use Rattle.rules.specs.Patch.{Snapshot, read, read_in, read_snapshot, moved_all}
-use Rattle.rules.specs.Laws.Outcome.{Holds, value, vacant, holds_bind, holds_if, holds_of}
-use Rattle.rules.specs.Laws.Value.{truth_cases}
-use Rattle.rules.specs.Laws.Store.{Good}
-use Rattle.rules.specs.Laws.Parts.{part_at}
-use Rattle.rules.specs.Laws.Rising.{Below}
+use Rattle.rules.proofs.Laws.Outcome.{Holds, value, vacant, holds_bind, holds_if, holds_of}
+use Rattle.rules.proofs.Laws.Value.{truth_cases}
+use Rattle.rules.proofs.Laws.Store.{Good}
+use Rattle.rules.proofs.Laws.Parts.{part_at}
+use Rattle.rules.proofs.Laws.Rising.{Below}
 use Rattle.table.specs.Lists.{list_at, Lists, ListOf}
 use Rattle.run.specs.Laws.Numbers.{mag_in}
 use Rattle.pieces.specs.Change.{Near, AllNear}

@@ -17,10 +17,10 @@ use Rattle.rules.specs.Value.{Ty, snapshot}
 use Rattle.rules.specs.Tree.{Statement, mentions}
 use Rattle.rules.specs.Table.{Part, expression, statement}
 use Rattle.rules.specs.Run.{Valued, Done, evaluate, holds, if_words, run}
-use Rattle.rules.specs.Laws.Store.{length_snapshot}
-use Rattle.rules.specs.Laws.Parts.{part_at}
-use Rattle.rules.specs.Laws.Size.{weight, few_operators}
-use Rattle.rules.specs.Laws.Inside.{inside}
+use Rattle.rules.proofs.Laws.Store.{length_snapshot}
+use Rattle.rules.proofs.Laws.Parts.{part_at}
+use Rattle.rules.proofs.Laws.Size.{weight, few_operators}
+use Rattle.rules.proofs.Laws.Inside.{inside}
 use Rattle.table.specs.Lists.{list_at}
 use Rattle.table.specs.declared.answer.Refusal.{Refusal}
 use Rattle.table.specs.declared.answer.Outcome.TheVariants.{Refused}

@@ -15,14 +15,14 @@ use Rattle.rules.specs.Value.{most_variables, padded, fit}
 use Rattle.rules.specs.Table.{header_length, variables, nodes, nodes_at, types_of, statement, Program, check}
 use Rattle.rules.specs.Run.{Done, most_steps, run}
 use Rattle.rules.specs.Call.{Finished, answered, within, finish_run, call_run, IsRun}
-use Rattle.rules.specs.Laws.Outcome.{Holds, value, holds_bind, holds_need, holds_of, holds_if}
-use Rattle.rules.specs.Laws.Answer.{number_injective}
-use Rattle.rules.specs.Laws.Call.{fit_long, padded_fine, in_limits_lem}
-use Rattle.rules.specs.Laws.Entry.{Fine}
-use Rattle.rules.specs.Laws.Header.{sized, types_long}
-use Rattle.rules.specs.Laws.Parts.{part_at, through, root_at, part_below}
-use Rattle.rules.specs.Laws.Shallow.{root_small}
-use Rattle.rules.specs.Laws.Size.{weight}
+use Rattle.rules.proofs.Laws.Outcome.{Holds, value, holds_bind, holds_need, holds_of, holds_if}
+use Rattle.rules.proofs.Laws.Answer.{number_injective}
+use Rattle.rules.proofs.Laws.Call.{fit_long, padded_fine, in_limits_lem}
+use Rattle.rules.proofs.Laws.Entry.{Fine}
+use Rattle.rules.proofs.Laws.Header.{sized, types_long}
+use Rattle.rules.proofs.Laws.Parts.{part_at, through, root_at, part_below}
+use Rattle.rules.proofs.Laws.Shallow.{root_small}
+use Rattle.rules.proofs.Laws.Size.{weight}
 use Rattle.table.specs.Lists.{Lists}
 use Rattle.table.specs.Paper.{number_of, answer_of, reason_of, reason_back}
 use Rattle.table.specs.declared.answer.Refusal.{Refusal}

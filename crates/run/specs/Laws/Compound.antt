@@ -15,10 +15,10 @@ use Rattle.rules.specs.Outcome as Paper
 use Rattle.rules.specs.Tree.{Statement, node_of}
 use Rattle.rules.specs.Table.{Kind, number_constant, truth_constant, variable, operator, skip, assign, sequence, if, repeat, types_of, statement}
 use Rattle.rules.specs.Run.{Done, entry, enter, run}
-use Rattle.rules.specs.Laws.Parts.{no_expression, statement_of, number_of_kind, node_at, part_at, parts_of, Built, stands}
-use Rattle.rules.specs.Laws.Size.{weight}
-use Rattle.rules.specs.Laws.Entry.{run_dry}
-use Rattle.rules.specs.Laws.Inside.{inside, run_inside}
+use Rattle.rules.proofs.Laws.Parts.{no_expression, statement_of, number_of_kind, node_at, part_at, parts_of, Built, stands}
+use Rattle.rules.proofs.Laws.Size.{weight}
+use Rattle.rules.proofs.Laws.Entry.{run_dry}
+use Rattle.rules.proofs.Laws.Inside.{inside, run_inside}
 use Rattle.table.specs.Paper.{refusal_for}
 use Rattle.table.specs.declared.answer.Refusal.{Refusal}
 use Rattle.table.specs.declared.answer.Outcome.TheVariants.{Accepted, Refused}

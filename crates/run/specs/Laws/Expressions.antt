@@ -10,16 +10,16 @@ use Rattle.std.proofs.Math.IntN.{pos}
 use Rattle.std.specs.Int.Signed.{mag}
 use mir.Syntax.{w64}
 use Rattle.std.proofs.lemmas.Int.{to_z_pos}
-use Rattle.rules.specs.Laws.Value.{truth_cases}
+use Rattle.rules.proofs.Laws.Value.{truth_cases}
 use Rattle.numbers.specs.Lay.{lay}
 use Rattle.rules.specs.Outcome.{Outcome, accepted, refused, ◌>>=◌}
 use Rattle.rules.specs.Value.{Ty, in_type, most_variables, type_of, at as value_at}
 use Rattle.rules.specs.Tree.{Expression}
 use Rattle.rules.specs.Table.{Node, read_node, constant_of, Kind, number_constant, truth_constant, variable, types_of, Part, expression}
 use Rattle.rules.specs.Run.{Valued, evaluate}
-use Rattle.rules.specs.Laws.Outcome.{Holds, holds_of}
-use Rattle.rules.specs.Laws.Parts.{number_of_kind, node_at, part_at, parts_of, Built, through, stands_as, node_inside}
-use Rattle.rules.specs.Laws.Table.{Sound, check_sound}
+use Rattle.rules.proofs.Laws.Outcome.{Holds, holds_of}
+use Rattle.rules.proofs.Laws.Parts.{number_of_kind, node_at, part_at, parts_of, Built, through, stands_as, node_inside}
+use Rattle.rules.proofs.Laws.Table.{Sound, check_sound}
 use Rattle.table.specs.declared.answer.Refusal.{Refusal}
 use Rattle.run.specs.declared.expression.Evaluated.{Evaluated}
 use Rattle.run.specs.declared.expression.Evaluated.TheVariants.{Is as Value, Refused}

@@ -14,9 +14,9 @@ use Rattle.numbers.specs.Laws.{decide}
 use Rattle.rules.specs.Value.{Ty, lowest, highest, in_type, at, type_of, fit}
 use Rattle.rules.specs.Table.{u16, header_length, variables, nodes_at, type_bytes, ty_of, types_of}
 use Rattle.rules.specs.Run.{most_steps}
-use Rattle.rules.specs.Laws.Value.{zero_in}
-use Rattle.rules.specs.Laws.Store.{Good}
-use Rattle.rules.specs.Laws.Call.{fit_long, fit_good, good_fit, in_limits_lem}
+use Rattle.rules.proofs.Laws.Value.{zero_in}
+use Rattle.rules.proofs.Laws.Store.{Good}
+use Rattle.rules.proofs.Laws.Call.{fit_long, fit_good, good_fit, in_limits_lem}
 
 -- ---- the range of a type
 

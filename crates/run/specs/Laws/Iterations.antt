@@ -15,9 +15,9 @@ use Rattle.rules.specs.Value.{snapshot}
 use Rattle.rules.specs.Tree.{Statement, mentions}
 use Rattle.rules.specs.Table.{types_of}
 use Rattle.rules.specs.Run.{Done, iterate, run}
-use Rattle.rules.specs.Laws.Store.{length_snapshot}
-use Rattle.rules.specs.Laws.Size.{weight}
-use Rattle.rules.specs.Laws.Entry.{Fine}
+use Rattle.rules.proofs.Laws.Store.{length_snapshot}
+use Rattle.rules.proofs.Laws.Size.{weight}
+use Rattle.rules.proofs.Laws.Entry.{Fine}
 use Rattle.table.specs.Lists.{list_at}
 use Rattle.table.specs.declared.answer.Refusal.{Refusal}
 use Rattle.table.specs.declared.answer.Outcome.TheVariants.{Accepted, Refused}

@@ -5,7 +5,7 @@ use Rattle.std.proofs.Math.Path.{sym, ap}
 use Rattle.std.proofs.Common.{◌∙◌}
 use Rattle.std.proofs.Math.ListN.{get_or-map}
 use Rattle.rules.specs.Value.{at, snapshot}
-use Rattle.rules.specs.Laws.Store.{length_snapshot}
+use Rattle.rules.proofs.Laws.Store.{length_snapshot}
 use Rattle.table.specs.Lists.{list_at}
 use Rattle.table.specs.Laws.Row.{list_long, list_at_lem}
 use Rattle.run.specs.Words.{Listed}

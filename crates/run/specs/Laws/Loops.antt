@@ -16,11 +16,11 @@ use Rattle.rules.specs.Value.{Ty, snapshot}
 use Rattle.rules.specs.Tree.{Expression, Statement, mentions}
 use Rattle.rules.specs.Table.{Kind, Part, expression, statement}
 use Rattle.rules.specs.Run.{Valued, Done, evaluate, times, iterate, repeat_words, run}
-use Rattle.rules.specs.Laws.Mentions.{◌⊆◌, repeat_body}
-use Rattle.rules.specs.Laws.Store.{length_snapshot}
-use Rattle.rules.specs.Laws.Parts.{statement_of, node_at, part_at, child_at}
-use Rattle.rules.specs.Laws.Size.{weight, Small}
-use Rattle.rules.specs.Laws.Inside.{inside}
+use Rattle.rules.proofs.Laws.Mentions.{◌⊆◌, repeat_body}
+use Rattle.rules.proofs.Laws.Store.{length_snapshot}
+use Rattle.rules.proofs.Laws.Parts.{statement_of, node_at, part_at, child_at}
+use Rattle.rules.proofs.Laws.Size.{weight, Small}
+use Rattle.rules.proofs.Laws.Inside.{inside}
 use Rattle.table.specs.Lists.{list_at}
 use Rattle.table.specs.declared.answer.Refusal.{Refusal}
 use Rattle.table.specs.declared.answer.Outcome.TheVariants.{Refused}

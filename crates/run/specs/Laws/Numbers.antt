@@ -14,7 +14,7 @@ use Rattle.rules.specs.Value.{Ty, in_type, lowest, highest, bit}
 use Rattle.rules.specs.Tree.{Operator, gives, apply}
 use Rattle.rules.specs.Run.{times}
 use Rattle.rules.specs.Table.{operator}
-use Rattle.rules.specs.Laws.Parts.{number_of_kind}
+use Rattle.rules.proofs.Laws.Parts.{number_of_kind}
 use Rattle.run.specs.declared.number.Computed.{Computed}
 use Rattle.run.specs.declared.number.Computed.TheVariants.{Is as Result, Outside}
 use Rattle.run.specs.Code.{Number, computed_as}

@@ -16,10 +16,10 @@ use Rattle.rules.specs.Value.{Ty, in_type}
 use Rattle.rules.specs.Tree.{Operator, Expression, Statement, gives, apply}
 use Rattle.rules.specs.Table.{Kind, number_constant, truth_constant, variable, operator, skip, assign, sequence, if, repeat, types_of, expression, statement, Program, check}
 use Rattle.rules.specs.Run.{compute, evaluate}
-use Rattle.rules.specs.Laws.Outcome.{Holds, holds_of}
-use Rattle.rules.specs.Laws.Parts.{number_of_kind, node_at, part_at, parts_of, Built, stands, child_at, part_typed}
-use Rattle.rules.specs.Laws.Size.{operations, record_size}
-use Rattle.rules.specs.Laws.Typed.{value_typed}
+use Rattle.rules.proofs.Laws.Outcome.{Holds, holds_of}
+use Rattle.rules.proofs.Laws.Parts.{number_of_kind, node_at, part_at, parts_of, Built, stands, child_at, part_typed}
+use Rattle.rules.proofs.Laws.Size.{operations, record_size}
+use Rattle.rules.proofs.Laws.Typed.{value_typed}
 use Rattle.table.specs.Paper.{refusal_for}
 use Rattle.table.specs.declared.answer.Refusal.{Refusal}
 use Rattle.run.specs.declared.number.Computed.{Computed}

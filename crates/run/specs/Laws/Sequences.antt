@@ -10,10 +10,10 @@ use Rattle.rules.specs.Outcome as Paper
 use Rattle.rules.specs.Tree.{Statement}
 use Rattle.rules.specs.Table.{Kind, types_of, statement}
 use Rattle.rules.specs.Run.{Done, run}
-use Rattle.rules.specs.Laws.Parts.{statement_of, node_at, part_at, child_at}
-use Rattle.rules.specs.Laws.Size.{weight, Small}
-use Rattle.rules.specs.Laws.Entry.{Fine}
-use Rattle.rules.specs.Laws.Inside.{inside}
+use Rattle.rules.proofs.Laws.Parts.{statement_of, node_at, part_at, child_at}
+use Rattle.rules.proofs.Laws.Size.{weight, Small}
+use Rattle.rules.proofs.Laws.Entry.{Fine}
+use Rattle.rules.proofs.Laws.Inside.{inside}
 use Rattle.table.specs.declared.answer.Refusal.{Refusal}
 use Rattle.table.specs.declared.answer.Outcome.TheVariants.{Accepted, Refused}
 use Rattle.run.specs.declared.statement.Ran.{Ran}

@@ -14,12 +14,12 @@ use Rattle.rules.specs.Value.{Ty, type_of}
 use Rattle.rules.specs.Tree.{Expression, Statement, mentions}
 use Rattle.rules.specs.Table.{Node, read_node, Kind, assign, types_of, expression, statement}
 use Rattle.rules.specs.Run.{Valued, Done, evaluate, run}
-use Rattle.rules.specs.Laws.Outcome.{Holds, holds_of}
-use Rattle.rules.specs.Laws.Parts.{statement_of, number_of_kind, node_at, part_at, parts_of, Built, stands_as, node_inside, child_at, part_typed}
-use Rattle.rules.specs.Laws.Size.{operations, record_size, weight, few_operators, Small, words_bounded}
-use Rattle.rules.specs.Laws.Typed.{Typed, Kept, run_keeps}
-use Rattle.rules.specs.Laws.Entry.{Fine}
-use Rattle.rules.specs.Laws.Inside.{inside}
+use Rattle.rules.proofs.Laws.Outcome.{Holds, holds_of}
+use Rattle.rules.proofs.Laws.Parts.{statement_of, number_of_kind, node_at, part_at, parts_of, Built, stands_as, node_inside, child_at, part_typed}
+use Rattle.rules.proofs.Laws.Size.{operations, record_size, weight, few_operators, Small, words_bounded}
+use Rattle.rules.proofs.Laws.Typed.{Typed, Kept, run_keeps}
+use Rattle.rules.proofs.Laws.Entry.{Fine}
+use Rattle.rules.proofs.Laws.Inside.{inside}
 use Rattle.table.specs.Lists.{list_at, ListOf}
 use Rattle.table.specs.declared.answer.Refusal.{Refusal}
 use Rattle.table.specs.declared.answer.Outcome.TheVariants.{Accepted, Refused}

@@ -12,8 +12,8 @@ use Rattle.rules.specs.Value.{Ty, snapshot}
 use Rattle.rules.specs.Tree.{Expression, Statement, mentions}
 use Rattle.rules.specs.Table.{Kind, expression, statement}
 use Rattle.rules.specs.Run.{Done, holds, run}
-use Rattle.rules.specs.Laws.Parts.{statement_of, node_at, part_at, child_at}
-use Rattle.rules.specs.Laws.Size.{Small}
+use Rattle.rules.proofs.Laws.Parts.{statement_of, node_at, part_at, child_at}
+use Rattle.rules.proofs.Laws.Size.{Small}
 use Rattle.table.specs.Lists.{list_at}
 use Rattle.table.specs.declared.answer.Refusal.{Refusal}
 use Rattle.table.specs.declared.answer.Outcome.TheVariants.{Accepted, Refused}

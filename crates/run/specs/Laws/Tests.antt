@@ -10,9 +10,9 @@ use Rattle.rules.specs.Value.{fit}
 use Rattle.rules.specs.Table.{header_length, nodes_at, types_of, Program, check}
 use Rattle.rules.specs.Run.{most_steps}
 use Rattle.rules.specs.Call.{call_check, IsCheck}
-use Rattle.rules.specs.Laws.Answer.{number_some}
-use Rattle.rules.specs.Laws.Header.{sized}
-use Rattle.rules.specs.Laws.Parts.{through}
+use Rattle.rules.proofs.Laws.Answer.{number_some}
+use Rattle.rules.proofs.Laws.Header.{sized}
+use Rattle.rules.proofs.Laws.Parts.{through}
 use Rattle.table.specs.Paper.{number_of, reason_of}
 use Rattle.table.specs.declared.answer.Refusal.{Refusal}
 use Rattle.table.specs.declared.answer.Refusal.TheVariants.{Store, Limit}

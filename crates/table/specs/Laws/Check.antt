@@ -13,7 +13,7 @@ use Rattle.rules.specs.Value.{Ty}
 use Rattle.rules.specs.Tree.{Statement, depth}
 use Rattle.rules.specs.Table.{nodes, check_header, type_bytes, check_types, types_of, Node, nodes_of, kind_of, Part, make_kind, make_all, root_of, children, check_uses, most_depth, Program, check}
 use Rattle.rules.specs.Call.{call_check, IsCheck}
-use Rattle.rules.specs.Laws.Outcome.{Holds, value, vacant, holds_bind, holds_any, holds_map}
+use Rattle.rules.proofs.Laws.Outcome.{Holds, value, vacant, holds_bind, holds_any, holds_map}
 use Rattle.table.specs.Told.{Tells, passes, fails, tree_of, IsDepth}
 use Rattle.table.specs.Told as Told
 use Rattle.table.specs.Laws.Nodes.{nodes_count}

@@ -58,11 +58,11 @@ pub fits-requires : goal.fits-requires
 fits-requires c = types_inside (table_sized c.requires)
 
 pub returns-then-not-fits : goal.returns-then-not-fits
-returns-then-not-fits c = λ h. outputs_refused h (answer c h) c.refuse.result _ (not-true _ c.if-not-fits.true) c.refuse.ensures
+returns-then-not-fits c = λ h. outputs_refused h (answer c h) c.refuse.result _ c.if-not-fits.true c.refuse.ensures
 
 pub returns-then-out-reached : goal.returns-then-out-reached
 returns-then-out-reached c =
-    λ h. room_refused h (answer c h) c.refuse-then-out-reached.result _ (not-false _ c.if-not-fits.false)
+    λ h. room_refused h (answer c h) c.refuse-then-out-reached.result _ c.if-not-fits.false
     c.if-out-reached.true c.refuse-then-out-reached.ensures
 
 pub bounds-old-1 : goal.bounds-old-1
@@ -84,4 +84,4 @@ returns c =
     let limit : c.limit_of.result ≡ nat_abs (limit_of c.args.old.now) = c.limit_of.ensures ∙ cast_back (at c.args.old.now 1) (search rules) in
     λ h.
     completed h c.sums-inputs.result c.sums-outputs.result counted limit (inputs_are c h) (outputs_are c h) c.if-out-reached.false
-    (answer c h) (not-false _ c.if-not-fits.false) c.complete.result _ c.complete.ensures
+    (answer c h) c.if-not-fits.false c.complete.result _ c.complete.ensures

@@ -36,7 +36,7 @@ returns-then-not-within c =
     let count : c.pair-v.result ≡ variables bytes = count_is bytes c.pair-v.ensures.0 in
     let longs : true ≡ leb (3 + 2 * variables bytes) (length old) = long_enough c.requires old count c.if-old-least.false in
     let sizes : c.within.result ≡ between (pos (3 + 2 * variables bytes)) (pos (length old)) (at old 0) = c.within.ensures ∙ between_as (to_z_pos w64 (3 + 2 * c.pair-v.result) (omega (arith, c.pair-v.ensures.1)) ∙ ap (λ (i : ℕ). pos (3 + 2 * i)) count) (to_z_pos w64 _ (omega arith)) (to_z-of_z w64 _ (search rules)) in
-    header_by c.requires old true false _ _ _ _ longs (sym (not-true _ c.if-not-within.true) ∙ sizes) refl refl refl refl
+    header_by c.requires old true false _ _ _ _ longs (sym c.if-not-within.true ∙ sizes) refl refl refl refl
 
 pub returns-then-not-in_limits : goal.returns-then-not-in_limits
 returns-then-not-in_limits c =
@@ -45,9 +45,9 @@ returns-then-not-in_limits c =
     let count : c.pair-v.result ≡ variables bytes = count_is bytes c.pair-v.ensures.0 in
     let longs : true ≡ leb (3 + 2 * variables bytes) (length old) = long_enough c.requires old count c.if-old-least.false in
     let sizes : c.within.result ≡ between (pos (3 + 2 * variables bytes)) (pos (length old)) (at old 0) = c.within.ensures ∙ between_as (to_z_pos w64 (3 + 2 * c.pair-v.result) (omega (arith, c.pair-v.ensures.1)) ∙ ap (λ (i : ℕ). pos (3 + 2 * i)) count) (to_z_pos w64 _ (omega arith)) (to_z-of_z w64 _ (search rules)) in
-    let sized : true ≡ between (pos (3 + 2 * variables bytes)) (pos (length old)) (at old 0) = sym (not-false _ c.if-not-within.false) ∙ sizes in
+    let sized : true ≡ between (pos (3 + 2 * variables bytes)) (pos (length old)) (at old 0) = sym c.if-not-within.false ∙ sizes in
     let limits : c.in_limits.result ≡ between (pos 1) most_steps (at old 1) = c.in_limits.ensures ∙ between_back _ _ _ (search rules) in
-    header_by c.requires old true true false _ _ _ longs sized (sym (not-true _ c.if-not-in_limits.true) ∙ limits) refl refl refl
+    header_by c.requires old true true false _ _ _ longs sized (sym c.if-not-in_limits.true ∙ limits) refl refl refl
 
 pub returns-then-not-within-2 : goal.returns-then-not-within-2
 returns-then-not-within-2 c =
@@ -56,12 +56,12 @@ returns-then-not-within-2 c =
     let count : c.pair-v.result ≡ variables bytes = count_is bytes c.pair-v.ensures.0 in
     let longs : true ≡ leb (3 + 2 * variables bytes) (length old) = long_enough c.requires old count c.if-old-least.false in
     let sizes : c.within.result ≡ between (pos (3 + 2 * variables bytes)) (pos (length old)) (at old 0) = c.within.ensures ∙ between_as (to_z_pos w64 (3 + 2 * c.pair-v.result) (omega (arith, c.pair-v.ensures.1)) ∙ ap (λ (i : ℕ). pos (3 + 2 * i)) count) (to_z_pos w64 _ (omega arith)) (to_z-of_z w64 _ (search rules)) in
-    let sized : true ≡ between (pos (3 + 2 * variables bytes)) (pos (length old)) (at old 0) = sym (not-false _ c.if-not-within.false) ∙ sizes in
+    let sized : true ≡ between (pos (3 + 2 * variables bytes)) (pos (length old)) (at old 0) = sym c.if-not-within.false ∙ sizes in
     let limits : c.in_limits.result ≡ between (pos 1) most_steps (at old 1) = c.in_limits.ensures ∙ between_back _ _ _ (search rules) in
-    let limited : true ≡ between (pos 1) most_steps (at old 1) = sym (not-false _ c.if-not-in_limits.false) ∙ limits in
+    let limited : true ≡ between (pos 1) most_steps (at old 1) = sym c.if-not-in_limits.false ∙ limits in
     let steps : c.within-2.result ≡ between (pos 1) (at old 1) (at old 2) = c.within-2.ensures ∙ between_as refl (to_z-of_z w64 _ (search rules)) (to_z-of_z w64 _ (search rules)) in
     header_by c.requires old true true true false _ _ longs sized limited
-    (sym (not-true _ c.if-not-within-2.true) ∙ steps) refl refl
+    (sym c.if-not-within-2.true ∙ steps) refl refl
 
 pub fits-requires : goal.fits-requires
 fits-requires c = types_inside c.requires
@@ -73,14 +73,14 @@ returns-then-not-fits c =
     let count : c.pair-v.result ≡ variables bytes = count_is bytes c.pair-v.ensures.0 in
     let longs : true ≡ leb (3 + 2 * variables bytes) (length old) = long_enough c.requires old count c.if-old-least.false in
     let sizes : c.within.result ≡ between (pos (3 + 2 * variables bytes)) (pos (length old)) (at old 0) = c.within.ensures ∙ between_as (to_z_pos w64 (3 + 2 * c.pair-v.result) (omega (arith, c.pair-v.ensures.1)) ∙ ap (λ (i : ℕ). pos (3 + 2 * i)) count) (to_z_pos w64 _ (omega arith)) (to_z-of_z w64 _ (search rules)) in
-    let sized : true ≡ between (pos (3 + 2 * variables bytes)) (pos (length old)) (at old 0) = sym (not-false _ c.if-not-within.false) ∙ sizes in
+    let sized : true ≡ between (pos (3 + 2 * variables bytes)) (pos (length old)) (at old 0) = sym c.if-not-within.false ∙ sizes in
     let limits : c.in_limits.result ≡ between (pos 1) most_steps (at old 1) = c.in_limits.ensures ∙ between_back _ _ _ (search rules) in
-    let limited : true ≡ between (pos 1) most_steps (at old 1) = sym (not-false _ c.if-not-in_limits.false) ∙ limits in
+    let limited : true ≡ between (pos 1) most_steps (at old 1) = sym c.if-not-in_limits.false ∙ limits in
     let steps : c.within-2.result ≡ between (pos 1) (at old 1) (at old 2) = c.within-2.ensures ∙ between_as refl (to_z-of_z w64 _ (search rules)) (to_z-of_z w64 _ (search rules)) in
-    let stepped : true ≡ between (pos 1) (at old 1) (at old 2) = sym (not-false _ c.if-not-within-2.false) ∙ steps in
+    let stepped : true ≡ between (pos 1) (at old 1) (at old 2) = sym c.if-not-within-2.false ∙ steps in
     let inputs : c.fits-2.result ≡ fit (types_of bytes) (inputs_of (types_of bytes) old) = c.fits-2.ensures ∙ ap (fit (types_of bytes)) (inputs_are c.requires old count) in
     header_by c.requires old true true true true false _ longs sized limited stepped
-    (sym (not-true _ c.if-not-fits.true) ∙ inputs) refl
+    (sym c.if-not-fits.true ∙ inputs) refl
 
 pub fits-requires-2 : goal.fits-requires-2
 fits-requires-2 c = types_inside c.requires
@@ -92,12 +92,12 @@ returns c =
     let count : c.pair-v.result ≡ variables bytes = count_is bytes c.pair-v.ensures.0 in
     let longs : true ≡ leb (3 + 2 * variables bytes) (length old) = long_enough c.requires old count c.if-old-least.false in
     let sizes : c.within.result ≡ between (pos (3 + 2 * variables bytes)) (pos (length old)) (at old 0) = c.within.ensures ∙ between_as (to_z_pos w64 (3 + 2 * c.pair-v.result) (omega (arith, c.pair-v.ensures.1)) ∙ ap (λ (i : ℕ). pos (3 + 2 * i)) count) (to_z_pos w64 _ (omega arith)) (to_z-of_z w64 _ (search rules)) in
-    let sized : true ≡ between (pos (3 + 2 * variables bytes)) (pos (length old)) (at old 0) = sym (not-false _ c.if-not-within.false) ∙ sizes in
+    let sized : true ≡ between (pos (3 + 2 * variables bytes)) (pos (length old)) (at old 0) = sym c.if-not-within.false ∙ sizes in
     let limits : c.in_limits.result ≡ between (pos 1) most_steps (at old 1) = c.in_limits.ensures ∙ between_back _ _ _ (search rules) in
-    let limited : true ≡ between (pos 1) most_steps (at old 1) = sym (not-false _ c.if-not-in_limits.false) ∙ limits in
+    let limited : true ≡ between (pos 1) most_steps (at old 1) = sym c.if-not-in_limits.false ∙ limits in
     let steps : c.within-2.result ≡ between (pos 1) (at old 1) (at old 2) = c.within-2.ensures ∙ between_as refl (to_z-of_z w64 _ (search rules)) (to_z-of_z w64 _ (search rules)) in
-    let stepped : true ≡ between (pos 1) (at old 1) (at old 2) = sym (not-false _ c.if-not-within-2.false) ∙ steps in
+    let stepped : true ≡ between (pos 1) (at old 1) (at old 2) = sym c.if-not-within-2.false ∙ steps in
     let inputs : c.fits-2.result ≡ fit (types_of bytes) (inputs_of (types_of bytes) old) = c.fits-2.ensures ∙ ap (fit (types_of bytes)) (inputs_are c.requires old count) in
     header_by c.requires old true true true true true c.fits3.result longs sized limited stepped
-    (sym (not-false _ c.if-not-fits.false) ∙ inputs)
+    (sym c.if-not-fits.false ∙ inputs)
     (c.fits3.ensures ∙ ap (fit (types_of bytes)) (outputs_are c.requires old count))

@@ -51,12 +51,12 @@ returns-then-not-change_fits c =
     let count : c.pair-v.result ≡ variables c.args.t.now = count_is c.args.t.now c.pair-v.ensures.0 in
     let answer : legal_change (type_by c.args.t.now c.loop-i.i) (at c.args.inputs.now c.loop-i.i) (at c.args.changes.now c.loop-i.i) ≡ c.change_fits.result = sym (c.change_fits.ensures ∙ ap₂ {C = Bool} (legal_change (type_by c.args.t.now c.loop-i.i)) (to_z-of_z w64 _ (search rules)) (to_z-of_z w64 _ (search rules))) in
     legal_not c.requires.0 c.args.inputs.now c.requires.1 c.args.changes.now c.loop-i.i (omega (arith, count))
-    (answer ∙ not-true _ c.if-not-change_fits.true)
+    (answer ∙ c.if-not-change_fits.true)
 
 pub loop-i-preserved : goal.loop-i-preserved
 loop-i-preserved c =
     let answer : legal_change (type_by c.args.t.now c.loop-i.i) (at c.args.inputs.now c.loop-i.i) (at c.args.changes.now c.loop-i.i) ≡ c.change_fits.result = sym (c.change_fits.ensures ∙ ap₂ {C = Bool} (legal_change (type_by c.args.t.now c.loop-i.i)) (to_z-of_z w64 _ (search rules)) (to_z-of_z w64 _ (search rules))) in
-    (omega arith, below_more _ _ c.loop-i.invariant.1 (answer ∙ not-false _ c.if-not-change_fits.false))
+    (omega arith, below_more _ _ c.loop-i.invariant.1 (answer ∙ c.if-not-change_fits.false))
 
 pub returns : goal.returns
 returns c =

@@ -4,7 +4,7 @@ use mathlib.Core.Path.{◌≡◌}
 use native.Mathlib.Omega.{arith}
 use mathlib.Core.List.{List}
 use lib.IntN.{ℤ}
-use Rattle.rules.specs.Laws.Parts.{node_at}
+use Rattle.rules.proofs.Laws.Parts.{node_at}
 use Rattle.patch.proofs.Nodes.{node_bytes, read_node_lem}
 use Rattle.pieces.specs.Laws.Shifts.{Got}
 use Rattle.patch.proofs.Assigns.{its, shifts, variable_low, value_asked, assign_refused, value_got, value_inside, assign_broken, assign_answer}

@@ -6,7 +6,7 @@ use mathlib.Core.List.{List}
 use lib.IntN.{ℤ}
 use borrow.Author.Tests.{not-true, not-false}
 use Rattle.rules.specs.Value.{Ty}
-use Rattle.rules.specs.Laws.Parts.{node_at}
+use Rattle.rules.proofs.Laws.Parts.{node_at}
 use Rattle.patch.proofs.Nodes.{node_bytes, row_known, read_node_lem}
 use Rattle.patch.proofs.Heads.{head_asked, HeadGot, head_got}
 use Rattle.patch.proofs.Counts.{number_byte, count_headless, count_below, count_number, count_asked, count_answer}
@@ -18,7 +18,7 @@ head_fits-requires c = head_asked c.requires
 pub returns-then-not-head_fits : goal.returns-then-not-head_fits
 returns-then-not-head_fits c =
     let laid : List ℤ = c.head_fits.new.out in
-    count_headless c.requires c.args.out.now laid _ c.head_fits.ensures (not-true _ c.if-not-head_fits.true) _
+    count_headless c.requires c.args.out.now laid _ c.head_fits.ensures c.if-not-head_fits.true _
 
 pub width-w-requires : goal.width-w-requires
 width-w-requires c = row_known c.requires.known
@@ -35,13 +35,13 @@ child_a-requires c = node_bytes c.requires.known
 pub bounds-old-from : goal.bounds-old-from
 bounds-old-from c =
     let laid : List ℤ = c.head_fits.new.out in
-    let first : HeadGot c.requires Ty.number c.args.out.now laid = head_got c.requires 0 Ty.number number_byte c.args.out.now laid _ c.head_fits.ensures (not-false _ c.if-not-head_fits.false) in
+    let first : HeadGot c.requires Ty.number c.args.out.now laid = head_got c.requires 0 Ty.number number_byte c.args.out.now laid _ c.head_fits.ensures c.if-not-head_fits.false in
     count_below c.requires first
 
 pub operand-requires : goal.operand-requires
 operand-requires c =
     let laid : List ℤ = c.head_fits.new.out in
-    let first : HeadGot c.requires Ty.number c.args.out.now laid = head_got c.requires 0 Ty.number number_byte c.args.out.now laid _ c.head_fits.ensures (not-false _ c.if-not-head_fits.false) in
+    let first : HeadGot c.requires Ty.number c.args.out.now laid = head_got c.requires 0 Ty.number number_byte c.args.out.now laid _ c.head_fits.ensures c.if-not-head_fits.false in
     let counted : c.child_a.result ≡ (node_at c.args.t.now c.args.node).a = read_node_lem c.requires.known (λ n. n.a) c.child_a.ensures in
     let g = first in
     (count_asked c.requires g c.width-w.ensures.0 counted, count_number c.requires g)
@@ -49,7 +49,7 @@ operand-requires c =
 pub returns : goal.returns
 returns c =
     let laid : List ℤ = c.head_fits.new.out in
-    let first : HeadGot c.requires Ty.number c.args.out.now laid = head_got c.requires 0 Ty.number number_byte c.args.out.now laid _ c.head_fits.ensures (not-false _ c.if-not-head_fits.false) in
+    let first : HeadGot c.requires Ty.number c.args.out.now laid = head_got c.requires 0 Ty.number number_byte c.args.out.now laid _ c.head_fits.ensures c.if-not-head_fits.false in
     let counted : c.child_a.result ≡ (node_at c.args.t.now c.args.node).a = read_node_lem c.requires.known (λ n. n.a) c.child_a.ensures in
     let g = first in
     count_answer c.requires g c.width-w.ensures.0 counted c.operand.result _ c.operand.ensures

@@ -19,7 +19,7 @@ pub returns-then-not-in_type : goal.returns-then-not-in_type
 returns-then-not-in_type c =
     let below : c.args.from < c.args.end = omega arith in
     let word_is : kept (at c.args.old.now c.args.from) ≡ at c.args.old.now c.args.from = to_z-of_z w64 _ (search rules) in
-    head_wrong c.requires c.args.kind c.args.out.now _ below word_is (sym c.in_type.ensures ∙ not-true _ c.if-not-in_type.true)
+    head_wrong c.requires c.args.kind c.args.out.now _ below word_is (sym c.in_type.ensures ∙ c.if-not-in_type.true)
 
 pub patch_snapshot-requires : goal.patch_snapshot-requires
 patch_snapshot-requires c =
@@ -31,5 +31,5 @@ pub returns : goal.returns
 returns c =
     let below : c.args.from < c.args.end = omega arith in
     let word_is : kept (at c.args.old.now c.args.from) ≡ at c.args.old.now c.args.from = to_z-of_z w64 _ (search rules) in
-    head_snapped c.requires c.args.kind c.args.out.now _ below word_is (sym c.in_type.ensures ∙ not-false _ c.if-not-in_type.false)
+    head_snapped c.requires c.args.kind c.args.out.now _ below word_is (sym c.in_type.ensures ∙ c.if-not-in_type.false)
     c.patch_snapshot.result c.patch_snapshot.ensures

@@ -19,7 +19,7 @@ pub returns-then-not-snapshot_fits : goal.returns-then-not-snapshot_fits
 returns-then-not-snapshot_fits c =
     let room : c.width-w.result ≤ c.args.end - c.args.reached.from = omega arith in
     shrunk_broken c.requires c.width-w.ensures.0 room c.snapshot_fits.result c.snapshot_fits.ensures
-    (not-true _ c.if-not-snapshot_fits.true) c.stopped-then-not-snapshot_fits.result c.stopped-then-not-snapshot_fits.ensures
+    c.if-not-snapshot_fits.true c.stopped-then-not-snapshot_fits.result c.stopped-then-not-snapshot_fits.ensures
 
 pub settled-next-requires : goal.settled-next-requires
 settled-next-requires c =

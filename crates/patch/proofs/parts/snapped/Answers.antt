@@ -13,7 +13,7 @@ patch_snapshot-requires c =
 
 pub returns-then-not-patch_snapshot : goal.returns-then-not-patch_snapshot
 returns-then-not-patch_snapshot c =
-    snapped_broken c.requires.0 c.requires.1 c.args.out.now _ _ c.patch_snapshot.ensures (not-true _ c.if-not-patch_snapshot.true) c.stopped.ensures
+    snapped_broken c.requires.0 c.requires.1 c.args.out.now _ _ c.patch_snapshot.ensures c.if-not-patch_snapshot.true c.stopped.ensures
 
 pub width-requires : goal.width-requires
 width-requires c = named_row c.requires.0
@@ -25,5 +25,5 @@ advanced-requires c =
 
 pub returns : goal.returns
 returns c =
-    snapped_on c.requires.0 c.requires.1 c.args.out.now _ _ c.patch_snapshot.ensures (not-false _ c.if-not-patch_snapshot.false) _ c.width.ensures.0
+    snapped_on c.requires.0 c.requires.1 c.args.out.now _ _ c.patch_snapshot.ensures c.if-not-patch_snapshot.false _ c.width.ensures.0
     c.advanced.ensures

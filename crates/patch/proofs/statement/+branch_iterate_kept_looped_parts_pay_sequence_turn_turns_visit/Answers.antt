@@ -12,7 +12,7 @@ use borrow.Author.Rules.{rules}
 use lib.ListN.{length, set}
 use mir.ValLaws.{to_z-of_z}
 use Rattle.rules.specs.Value.{at}
-use Rattle.rules.specs.Laws.Parts.{node_at}
+use Rattle.rules.proofs.Laws.Parts.{node_at}
 use Rattle.table.specs.Lists.{list_at}
 use Rattle.run.specs.Code.{farthest}
 use Rattle.pieces.specs.Entry.{AdvancedBy}
@@ -39,11 +39,11 @@ use Rattle.patch.proofs.Visits.{visit_broken, visit_sound, visit_skipped, visit_
 use Rattle.patch.proofs.statement.+branch_iterate_kept_looped_parts_pay_sequence_turn_turns_visit.Goals as goal
 
 pub branch-fork-test-requires : goal.branch-fork-test-requires
-branch-fork-test-requires t c = c.requires.1
+branch-fork-test-requires t c = c.requires
 
 pub branch-kept-requires : goal.branch-kept-requires
 branch-kept-requires t c =
-    (omega (arith, c.requires.0), branch_forked c.requires.1 c.fork-test.result _ _ c.fork-test.ensures c.in-Is.is)
+    (omega (arith, c.decreases), branch_forked c.requires c.fork-test.result _ _ c.fork-test.ensures c.in-Is.is)
 
 pub branch-shape_of-out-then-change-eq0 : goal.branch-shape_of-out-then-change-eq0
 branch-shape_of-out-then-change-eq0 t c = c.kept.auto.out ∙ c.fork-test.auto.out
@@ -51,19 +51,19 @@ branch-shape_of-out-then-change-eq0 t c = c.kept.auto.out ∙ c.fork-test.auto.o
 pub branch-returns-then-change-eq0 : goal.branch-returns-then-change-eq0
 branch-returns-then-change-eq0 t c =
     let back : to_z w64 (of_z w64 c.in-Is.change) ≡ c.in-Is.change = word_back c.in-Is.change (omega arith) in
-    branch_kept c.requires.1 c.fork-test.result _ _ c.fork-test.ensures c.in-Is.is
+    branch_kept c.requires c.fork-test.result _ _ c.fork-test.ensures c.in-Is.is
     (sym back ∙ ap (to_z w64) c.if-change-eq0.true) c.kept.result _ c.kept.ensures
 
 pub branch-flipped-requires : goal.branch-flipped-requires
 branch-flipped-requires t c =
-    (branch_forked c.requires.1 c.fork-test.result _ _ c.fork-test.ensures c.in-Is.is, kept_near c.in-Is.change (branch_near c.requires.1 c.fork-test.result _ _ c.fork-test.ensures c.in-Is.is))
+    (branch_forked c.requires c.fork-test.result _ _ c.fork-test.ensures c.in-Is.is, kept_near c.in-Is.change (branch_near c.requires c.fork-test.result _ _ c.fork-test.ensures c.in-Is.is))
 
 pub branch-shape_of-out-in-Refused : goal.branch-shape_of-out-in-Refused
 branch-shape_of-out-in-Refused t c = c.fork-test.auto.out
 
 pub branch-returns-in-Refused : goal.branch-returns-in-Refused
 branch-returns-in-Refused t c =
-    branch_refused c.requires.1 c.fork-test.result _ _ c.fork-test.ensures c.in-Refused.is c.stopped.result c.stopped.ensures _
+    branch_refused c.requires c.fork-test.result _ _ c.fork-test.ensures c.in-Refused.is c.stopped.result c.stopped.ensures _
 
 pub branch-shape_of-out-else-change-eq0 : goal.branch-shape_of-out-else-change-eq0
 branch-shape_of-out-else-change-eq0 t c = c.flipped.auto.out ∙ c.fork-test.auto.out
@@ -71,7 +71,7 @@ branch-shape_of-out-else-change-eq0 t c = c.flipped.auto.out ∙ c.fork-test.aut
 pub branch-returns-else-change-eq0 : goal.branch-returns-else-change-eq0
 branch-returns-else-change-eq0 t c =
     let back : to_z w64 (of_z w64 c.in-Is.change) ≡ c.in-Is.change = word_back c.in-Is.change (omega arith) in
-    branch_flipped c.requires.1 c.fork-test.result _ _ c.fork-test.ensures c.in-Is.is
+    branch_flipped c.requires c.fork-test.result _ _ c.fork-test.ensures c.in-Is.is
     (λ e. c.if-change-eq0.false (ap (of_z w64) e)) back
     c.flipped.result _ c.flipped.ensures
 
@@ -80,24 +80,24 @@ branch-returns-else-change-eq0 t c =
 -- Assumes nothing.
 
 pub iterate-overflow_mul-node : goal.iterate-overflow_mul-node
-iterate-overflow_mul-node t c = omega (arith, node_bytes c.requires.1.entered.known)
+iterate-overflow_mul-node t c = omega (arith, node_bytes c.requires.entered.known)
 
 pub iterate-overflow_add-base : goal.iterate-overflow_add-base
-iterate-overflow_add-base t c = omega (arith, node_bytes c.requires.1.entered.known)
+iterate-overflow_add-base t c = omega (arith, node_bytes c.requires.entered.known)
 
 pub iterate-child_b-body-requires : goal.iterate-child_b-body-requires
-iterate-child_b-body-requires t c = node_bytes c.requires.1.entered.known
+iterate-child_b-body-requires t c = node_bytes c.requires.entered.known
 
 pub iterate-width-w-requires : goal.iterate-width-w-requires
-iterate-width-w-requires t c = row_known c.requires.1.entered.known
+iterate-width-w-requires t c = row_known c.requires.entered.known
 
 pub iterate-offset_bounds-old-from : goal.iterate-offset_bounds-old-from
 iterate-offset_bounds-old-from t c =
     let short : length c.args.old.now ≤ farthest = omega arith in
-    omega (arith, (counted_at c.requires.1).below.ordered, (counted_at c.requires.1).below.ends, short)
+    omega (arith, (counted_at c.requires).below.ordered, (counted_at c.requires).below.ends, short)
 
 pub iterate-bounds-old-from : goal.iterate-bounds-old-from
-iterate-bounds-old-from t c = omega (arith, (counted_at c.requires.1).below.ordered, (counted_at c.requires.1).below.ends)
+iterate-bounds-old-from t c = omega (arith, (counted_at c.requires).below.ordered, (counted_at c.requires).below.ends)
 
 pub iterate-overflow_add-w : goal.iterate-overflow_add-w
 iterate-overflow_add-w t c = omega (arith, c.width-w.ensures.1)
@@ -105,21 +105,21 @@ iterate-overflow_add-w t c = omega (arith, c.width-w.ensures.1)
 pub iterate-overflow_add-w-2 : goal.iterate-overflow_add-w-2
 iterate-overflow_add-w-2 t c =
     let wide : c.width-w.result ≡ length (list_at c.args.lists.now c.args.node) = c.width-w.ensures.0 in
-    let inside : c.args.reached.from + (1 + c.width-w.result + c.args.length) ≤ length c.args.old.now = omega (arith, wide, count_inside c.requires.1, c.requires.1.entered.sound.inside.ends) in
+    let inside : c.args.reached.from + (1 + c.width-w.result + c.args.length) ≤ length c.args.old.now = omega (arith, wide, count_inside c.requires, c.requires.entered.sound.inside.ends) in
     let short : length c.args.old.now ≤ farthest = omega arith in
     omega (arith, inside, short)
 
 pub iterate-advanced-requires : goal.iterate-advanced-requires
 iterate-advanced-requires t c =
     let wide : c.width-w.result ≡ length (list_at c.args.lists.now c.args.node) = c.width-w.ensures.0 in
-    let inside : c.args.reached.from + (1 + c.width-w.result + c.args.length) ≤ length c.args.old.now = omega (arith, wide, count_inside c.requires.1, c.requires.1.entered.sound.inside.ends) in
+    let inside : c.args.reached.from + (1 + c.width-w.result + c.args.length) ≤ length c.args.old.now = omega (arith, wide, count_inside c.requires, c.requires.entered.sound.inside.ends) in
     let short : length c.args.old.now ≤ farthest = omega arith in
-    let near : c.args.reached.at + (1 + c.width-w.result + c.args.length) ≤ farthest = omega (arith, inside, c.requires.1.entered.sound.place) in
+    let near : c.args.reached.at + (1 + c.width-w.result + c.args.length) ≤ farthest = omega (arith, inside, c.requires.entered.sound.place) in
     (omega (arith, inside, short), near)
 
 pub iterate-turns-gone-requires : goal.iterate-turns-gone-requires
 iterate-turns-gone-requires t c =
-    let body : c.child_b-body.result ≡ (node_at c.args.t.now c.args.node).b = read_node_lem c.requires.1.entered.known (λ n. n.b) c.child_b-body.ensures in
+    let body : c.child_b-body.result ≡ (node_at c.args.t.now c.args.node).b = read_node_lem c.requires.entered.known (λ n. n.b) c.child_b-body.ensures in
     let wide : c.width-w.result ≡ length (list_at c.args.lists.now c.args.node) = c.width-w.ensures.0 in
     let step : let s = c.args in AdvancedBy (1 + length (list_at s.lists.now s.node) + s.length) s.reached c.advanced.result = subst (λ (n : ℕ). AdvancedBy (1 + n + c.args.length) c.args.reached c.advanced.result) wide c.advanced.ensures in
     let h = c.requires in
@@ -134,16 +134,16 @@ pub iterate-returns-in_default : goal.iterate-returns-in_default
 iterate-returns-in_default t c =
     let wide : c.width-w.result ≡ length (list_at c.args.lists.now c.args.node) = c.width-w.ensures.0 in
     let step : let s = c.args in AdvancedBy (1 + length (list_at s.lists.now s.node) + s.length) s.reached c.advanced.result = subst (λ (n : ℕ). AdvancedBy (1 + n + c.args.length) c.args.reached c.advanced.result) wide c.advanced.ensures in
-    let body : c.child_b-body.result ≡ (node_at c.args.t.now c.args.node).b = read_node_lem c.requires.1.entered.known (λ n. n.b) c.child_b-body.ensures in
-    let was : c.times-was.result ≡ count_of c.requires.1.count.head.word = c.times-was.ensures ∙ ap count_of (to_z-of_z w64 _ (search rules) ∙ sym (counted_at c.requires.1).word) in
-    let next : c.times-next.result ≡ count_of c.requires.1.count.count.change = c.times-next.ensures ∙ ap count_of (to_z-of_z w64 _ c.ranges.new ∙ c.requires.1.is) in
-    let stay : c.least-stay.result ≡ min (count_of c.requires.1.count.head.word) (count_of c.requires.1.count.count.change) = c.least-stay.ensures ∙ ap₂ {C = ℕ} min was next in
-    iterate_refused c.requires.1 step body stay c.turns-gone.result _ _ c.turns-gone.ensures c.in_default.is _
+    let body : c.child_b-body.result ≡ (node_at c.args.t.now c.args.node).b = read_node_lem c.requires.entered.known (λ n. n.b) c.child_b-body.ensures in
+    let was : c.times-was.result ≡ count_of c.requires.count.head.word = c.times-was.ensures ∙ ap count_of (to_z-of_z w64 _ (search rules) ∙ sym (counted_at c.requires).word) in
+    let next : c.times-next.result ≡ count_of c.requires.count.count.change = c.times-next.ensures ∙ ap count_of (to_z-of_z w64 _ c.ranges.new ∙ c.requires.is) in
+    let stay : c.least-stay.result ≡ min (count_of c.requires.count.head.word) (count_of c.requires.count.count.change) = c.least-stay.ensures ∙ ap₂ {C = ℕ} min was next in
+    iterate_refused c.requires step body stay c.turns-gone.result _ _ c.turns-gone.ensures c.in_default.is _
 
 pub iterate-overflow_add-from : goal.iterate-overflow_add-from
 iterate-overflow_add-from t c =
     let wide : c.width-w.result ≡ length (list_at c.args.lists.now c.args.node) = c.width-w.ensures.0 in
-    let inside : c.args.reached.from + (1 + c.width-w.result + c.args.length) ≤ length c.args.old.now = omega (arith, wide, count_inside c.requires.1, c.requires.1.entered.sound.inside.ends) in
+    let inside : c.args.reached.from + (1 + c.width-w.result + c.args.length) ≤ length c.args.old.now = omega (arith, wide, count_inside c.requires, c.requires.entered.sound.inside.ends) in
     let short : length c.args.old.now ≤ farthest = omega arith in
     omega (arith, inside, short)
 
@@ -151,23 +151,23 @@ pub iterate-last_of-requires : goal.iterate-last_of-requires
 iterate-last_of-requires t c =
     let wide : c.width-w.result ≡ length (list_at c.args.lists.now c.args.node) = c.width-w.ensures.0 in
     let step : let s = c.args in AdvancedBy (1 + length (list_at s.lists.now s.node) + s.length) s.reached c.advanced.result = subst (λ (n : ℕ). AdvancedBy (1 + n + c.args.length) c.args.reached c.advanced.result) wide c.advanced.ensures in
-    let body : c.child_b-body.result ≡ (node_at c.args.t.now c.args.node).b = read_node_lem c.requires.1.entered.known (λ n. n.b) c.child_b-body.ensures in
-    let was : c.times-was.result ≡ count_of c.requires.1.count.head.word = c.times-was.ensures ∙ ap count_of (to_z-of_z w64 _ (search rules) ∙ sym (counted_at c.requires.1).word) in
-    let next : c.times-next.result ≡ count_of c.requires.1.count.count.change = c.times-next.ensures ∙ ap count_of (to_z-of_z w64 _ c.ranges.new ∙ c.requires.1.is) in
-    let stay : c.least-stay.result ≡ min (count_of c.requires.1.count.head.word) (count_of c.requires.1.count.count.change) = c.least-stay.ensures ∙ ap₂ {C = ℕ} min was next in
-    let behind : (c.least-stay.result ≡ 0 → ⊥) → c.width-w.result ≤ c.turns-gone.result.from = λ has. omega (arith, wide, iterate_behind c.requires.1 step body stay c.turns-gone.result _ _ c.turns-gone.ensures c.in-Accepted.is has) in
+    let body : c.child_b-body.result ≡ (node_at c.args.t.now c.args.node).b = read_node_lem c.requires.entered.known (λ n. n.b) c.child_b-body.ensures in
+    let was : c.times-was.result ≡ count_of c.requires.count.head.word = c.times-was.ensures ∙ ap count_of (to_z-of_z w64 _ (search rules) ∙ sym (counted_at c.requires).word) in
+    let next : c.times-next.result ≡ count_of c.requires.count.count.change = c.times-next.ensures ∙ ap count_of (to_z-of_z w64 _ c.ranges.new ∙ c.requires.is) in
+    let stay : c.least-stay.result ≡ min (count_of c.requires.count.head.word) (count_of c.requires.count.count.change) = c.least-stay.ensures ∙ ap₂ {C = ℕ} min was next in
+    let behind : (c.least-stay.result ≡ 0 → ⊥) → c.width-w.result ≤ c.turns-gone.result.from = λ has. omega (arith, wide, iterate_behind c.requires step body stay c.turns-gone.result _ _ c.turns-gone.ensures c.in-Accepted.is has) in
     behind
 
 pub iterate-ended-requires : goal.iterate-ended-requires
 iterate-ended-requires t c =
     let wide : c.width-w.result ≡ length (list_at c.args.lists.now c.args.node) = c.width-w.ensures.0 in
     let step : let s = c.args in AdvancedBy (1 + length (list_at s.lists.now s.node) + s.length) s.reached c.advanced.result = subst (λ (n : ℕ). AdvancedBy (1 + n + c.args.length) c.args.reached c.advanced.result) wide c.advanced.ensures in
-    let body : c.child_b-body.result ≡ (node_at c.args.t.now c.args.node).b = read_node_lem c.requires.1.entered.known (λ n. n.b) c.child_b-body.ensures in
-    let was : c.times-was.result ≡ count_of c.requires.1.count.head.word = c.times-was.ensures ∙ ap count_of (to_z-of_z w64 _ (search rules) ∙ sym (counted_at c.requires.1).word) in
-    let next : c.times-next.result ≡ count_of c.requires.1.count.count.change = c.times-next.ensures ∙ ap count_of (to_z-of_z w64 _ c.ranges.new ∙ c.requires.1.is) in
-    let stay : c.least-stay.result ≡ min (count_of c.requires.1.count.head.word) (count_of c.requires.1.count.count.change) = c.least-stay.ensures ∙ ap₂ {C = ℕ} min was next in
+    let body : c.child_b-body.result ≡ (node_at c.args.t.now c.args.node).b = read_node_lem c.requires.entered.known (λ n. n.b) c.child_b-body.ensures in
+    let was : c.times-was.result ≡ count_of c.requires.count.head.word = c.times-was.ensures ∙ ap count_of (to_z-of_z w64 _ (search rules) ∙ sym (counted_at c.requires).word) in
+    let next : c.times-next.result ≡ count_of c.requires.count.count.change = c.times-next.ensures ∙ ap count_of (to_z-of_z w64 _ c.ranges.new ∙ c.requires.is) in
+    let stay : c.least-stay.result ≡ min (count_of c.requires.count.head.word) (count_of c.requires.count.count.change) = c.least-stay.ensures ∙ ap₂ {C = ℕ} min was next in
     let last : let s = c.args in c.last_of.result ≡ last_of c.least-stay.result (s.reached.from + 1) c.turns-gone.result.from (length (list_at s.lists.now s.node)) = c.last_of.ensures ∙ ap (last_of c.least-stay.result (c.args.reached.from + 1) c.turns-gone.result.from) wide in
-    iterate_endable c.requires.1 step body stay c.turns-gone.result _ _ c.turns-gone.ensures c.in-Accepted.is last
+    iterate_endable c.requires step body stay c.turns-gone.result _ _ c.turns-gone.ensures c.in-Accepted.is last
 
 pub iterate-shape_of-out : goal.iterate-shape_of-out
 iterate-shape_of-out t c =
@@ -179,15 +179,15 @@ pub iterate-returns : goal.iterate-returns
 iterate-returns t c =
     let wide : c.width-w.result ≡ length (list_at c.args.lists.now c.args.node) = c.width-w.ensures.0 in
     let step : let s = c.args in AdvancedBy (1 + length (list_at s.lists.now s.node) + s.length) s.reached c.advanced.result = subst (λ (n : ℕ). AdvancedBy (1 + n + c.args.length) c.args.reached c.advanced.result) wide c.advanced.ensures in
-    let body : c.child_b-body.result ≡ (node_at c.args.t.now c.args.node).b = read_node_lem c.requires.1.entered.known (λ n. n.b) c.child_b-body.ensures in
-    let was : c.times-was.result ≡ count_of c.requires.1.count.head.word = c.times-was.ensures ∙ ap count_of (to_z-of_z w64 _ (search rules) ∙ sym (counted_at c.requires.1).word) in
-    let next : c.times-next.result ≡ count_of c.requires.1.count.count.change = c.times-next.ensures ∙ ap count_of (to_z-of_z w64 _ c.ranges.new ∙ c.requires.1.is) in
-    let stay : c.least-stay.result ≡ min (count_of c.requires.1.count.head.word) (count_of c.requires.1.count.count.change) = c.least-stay.ensures ∙ ap₂ {C = ℕ} min was next in
+    let body : c.child_b-body.result ≡ (node_at c.args.t.now c.args.node).b = read_node_lem c.requires.entered.known (λ n. n.b) c.child_b-body.ensures in
+    let was : c.times-was.result ≡ count_of c.requires.count.head.word = c.times-was.ensures ∙ ap count_of (to_z-of_z w64 _ (search rules) ∙ sym (counted_at c.requires).word) in
+    let next : c.times-next.result ≡ count_of c.requires.count.count.change = c.times-next.ensures ∙ ap count_of (to_z-of_z w64 _ c.ranges.new ∙ c.requires.is) in
+    let stay : c.least-stay.result ≡ min (count_of c.requires.count.head.word) (count_of c.requires.count.count.change) = c.least-stay.ensures ∙ ap₂ {C = ℕ} min was next in
     let last : let s = c.args in c.last_of.result ≡ last_of c.least-stay.result (s.reached.from + 1) c.turns-gone.result.from (length (list_at s.lists.now s.node)) = c.last_of.ensures ∙ ap (last_of c.least-stay.result (c.args.reached.from + 1) c.turns-gone.result.from) wide in
-    iterate_answer c.requires.1 step body stay c.turns-gone.result _ _ c.turns-gone.ensures c.in-Accepted.is last
+    iterate_answer c.requires step body stay c.turns-gone.result _ _ c.turns-gone.ensures c.in-Accepted.is last
     c.ended.result c.put.last.0 _
     (c.put.ensures ∙ ap (set c.turns-gone.last.1.1.1.1.1.1.1.1.1.0 c.args.reached.at) (to_z-of_z w64 _ c.ranges.new))
-    (subst (λ (n : ℕ). EndsTo c.args.t.now c.args.lists.now c.args.node c.child_b-body.result (count_of c.requires.1.count.head.word - n) (n - count_of c.requires.1.count.head.word) c.last_of.result c.args.old.now c.args.end c.turns-gone.result c.ended.result c.put.last.0 c.ended.last.1.1.1.1.1.1.1.1.1.1.1.0) next
+    (subst (λ (n : ℕ). EndsTo c.args.t.now c.args.lists.now c.args.node c.child_b-body.result (count_of c.requires.count.head.word - n) (n - count_of c.requires.count.head.word) c.last_of.result c.args.old.now c.args.end c.turns-gone.result c.ended.result c.put.last.0 c.ended.last.1.1.1.1.1.1.1.1.1.1.1.0) next
     (subst (λ (n : ℕ). EndsTo c.args.t.now c.args.lists.now c.args.node c.child_b-body.result (n - c.times-next.result) (c.times-next.result - n) c.last_of.result c.args.old.now c.args.end c.turns-gone.result c.ended.result c.put.last.0 c.ended.last.1.1.1.1.1.1.1.1.1.1.1.0) was c.ended.ensures))
 
 -- ======== 
@@ -195,22 +195,22 @@ iterate-returns t c =
 -- Assumes nothing.
 
 pub kept-offset_bounds-old-from : goal.kept-offset_bounds-old-from
-kept-offset_bounds-old-from t c = omega (arith, (forked_at c.requires.1).below.ordered, (forked_at c.requires.1).below.ends)
+kept-offset_bounds-old-from t c = omega (arith, (forked_at c.requires).below.ordered, (forked_at c.requires).below.ends)
 
 pub kept-bounds-old-from : goal.kept-bounds-old-from
-kept-bounds-old-from t c = omega (arith, (forked_at c.requires.1).below.ordered, (forked_at c.requires.1).below.ends)
+kept-bounds-old-from t c = omega (arith, (forked_at c.requires).below.ordered, (forked_at c.requires).below.ends)
 
 pub kept-width-w-requires : goal.kept-width-w-requires
-kept-width-w-requires t c = row_known c.requires.1.entered.known
+kept-width-w-requires t c = row_known c.requires.entered.known
 
 pub kept-overflow_mul-node : goal.kept-overflow_mul-node
-kept-overflow_mul-node t c = omega (arith, node_bytes c.requires.1.entered.known)
+kept-overflow_mul-node t c = omega (arith, node_bytes c.requires.entered.known)
 
 pub kept-overflow_add-base : goal.kept-overflow_add-base
-kept-overflow_add-base t c = omega (arith, node_bytes c.requires.1.entered.known)
+kept-overflow_add-base t c = omega (arith, node_bytes c.requires.entered.known)
 
 pub kept-taken-same-requires : goal.kept-taken-same-requires
-kept-taken-same-requires t c = node_bytes c.requires.1.entered.known
+kept-taken-same-requires t c = node_bytes c.requires.entered.known
 
 pub kept-overflow_mul-w : goal.kept-overflow_mul-w
 kept-overflow_mul-w t c = omega (arith, c.width-w.ensures.1)
@@ -221,20 +221,20 @@ kept-overflow_add-w t c = omega (arith, c.width-w.ensures.1)
 pub kept-overflow_add-w-2 : goal.kept-overflow_add-w-2
 kept-overflow_add-w-2 t c =
     let wide : c.width-w.result ≡ length (list_at c.args.lists.now c.args.node) = c.width-w.ensures.0 in
-    let inside : c.args.reached.from + (1 + 2 * c.width-w.result + c.args.length) ≤ length c.args.old.now = omega (arith, wide, fork_inside c.requires.1, c.requires.1.entered.sound.inside.ends) in
+    let inside : c.args.reached.from + (1 + 2 * c.width-w.result + c.args.length) ≤ length c.args.old.now = omega (arith, wide, fork_inside c.requires, c.requires.entered.sound.inside.ends) in
     omega (arith, inside)
 
 pub kept-advanced-requires : goal.kept-advanced-requires
 kept-advanced-requires t c =
     let wide : c.width-w.result ≡ length (list_at c.args.lists.now c.args.node) = c.width-w.ensures.0 in
-    let inside : c.args.reached.from + (1 + 2 * c.width-w.result + c.args.length) ≤ length c.args.old.now = omega (arith, wide, fork_inside c.requires.1, c.requires.1.entered.sound.inside.ends) in
-    let near : c.args.reached.at + (1 + 2 * c.width-w.result + c.args.length) ≤ farthest = omega (arith, inside, c.requires.1.entered.sound.place) in
+    let inside : c.args.reached.from + (1 + 2 * c.width-w.result + c.args.length) ≤ length c.args.old.now = omega (arith, wide, fork_inside c.requires, c.requires.entered.sound.inside.ends) in
+    let near : c.args.reached.at + (1 + 2 * c.width-w.result + c.args.length) ≤ farthest = omega (arith, inside, c.requires.entered.sound.place) in
     (omega (arith, inside), near)
 
 pub kept-visit-gone-requires : goal.kept-visit-gone-requires
 kept-visit-gone-requires t c =
     let word : to_z w64 (of_z w64 (at c.args.old.now c.args.reached.from)) ≡ at c.args.old.now c.args.reached.from = to_z-of_z w64 _ (search rules) in
-    let same : c.taken-same.result ≡ taken_node c.args.t.now c.args.node (holds c.requires.1.fork.condition) = let k = c.requires.1.entered.known in c.taken-same.ensures ∙ ap₂ {C = ℕ} (λ (x y : ℕ). choose (holds (to_z w64 (of_z w64 (at c.args.old.now c.args.reached.from)))) x y) (read_node_lem k (λ n. n.b) refl) (read_node_lem k (λ n. n.c) refl) ∙ ap (λ (z : ℤ). taken_node c.args.t.now c.args.node (holds z)) (word ∙ sym (forked_at c.requires.1).condition) in
+    let same : c.taken-same.result ≡ taken_node c.args.t.now c.args.node (holds c.requires.fork.condition) = let k = c.requires.entered.known in c.taken-same.ensures ∙ ap₂ {C = ℕ} (λ (x y : ℕ). choose (holds (to_z w64 (of_z w64 (at c.args.old.now c.args.reached.from)))) x y) (read_node_lem k (λ n. n.b) refl) (read_node_lem k (λ n. n.c) refl) ∙ ap (λ (z : ℤ). taken_node c.args.t.now c.args.node (holds z)) (word ∙ sym (forked_at c.requires).condition) in
     let wide : c.width-w.result ≡ length (list_at c.args.lists.now c.args.node) = c.width-w.ensures.0 in
     let step : let s = c.args in AdvancedBy (1 + 2 * length (list_at s.lists.now s.node) + s.length) s.reached c.advanced.result = subst (λ (n : ℕ). AdvancedBy (1 + 2 * n + c.args.length) c.args.reached c.advanced.result) wide c.advanced.ensures in
     let h = c.requires in
@@ -248,47 +248,47 @@ kept-returns-in_default t c =
     let wide : c.width-w.result ≡ length (list_at c.args.lists.now c.args.node) = c.width-w.ensures.0 in
     let step : let s = c.args in AdvancedBy (1 + 2 * length (list_at s.lists.now s.node) + s.length) s.reached c.advanced.result = subst (λ (n : ℕ). AdvancedBy (1 + 2 * n + c.args.length) c.args.reached c.advanced.result) wide c.advanced.ensures in
     let word : to_z w64 (of_z w64 (at c.args.old.now c.args.reached.from)) ≡ at c.args.old.now c.args.reached.from = to_z-of_z w64 _ (search rules) in
-    let same : c.taken-same.result ≡ taken_node c.args.t.now c.args.node (holds c.requires.1.fork.condition) = let k = c.requires.1.entered.known in c.taken-same.ensures ∙ ap₂ {C = ℕ} (λ (x y : ℕ). choose (holds (to_z w64 (of_z w64 (at c.args.old.now c.args.reached.from)))) x y) (read_node_lem k (λ n. n.b) refl) (read_node_lem k (λ n. n.c) refl) ∙ ap (λ (z : ℤ). taken_node c.args.t.now c.args.node (holds z)) (word ∙ sym (forked_at c.requires.1).condition) in
-    kept_refused c.requires.1 step same c.visit-gone.result _ _ c.visit-gone.ensures c.in_default.is _
+    let same : c.taken-same.result ≡ taken_node c.args.t.now c.args.node (holds c.requires.fork.condition) = let k = c.requires.entered.known in c.taken-same.ensures ∙ ap₂ {C = ℕ} (λ (x y : ℕ). choose (holds (to_z w64 (of_z w64 (at c.args.old.now c.args.reached.from)))) x y) (read_node_lem k (λ n. n.b) refl) (read_node_lem k (λ n. n.c) refl) ∙ ap (λ (z : ℤ). taken_node c.args.t.now c.args.node (holds z)) (word ∙ sym (forked_at c.requires).condition) in
+    kept_refused c.requires step same c.visit-gone.result _ _ c.visit-gone.ensures c.in_default.is _
 
 pub kept-overflow_add-from : goal.kept-overflow_add-from
 kept-overflow_add-from t c =
     let wide : c.width-w.result ≡ length (list_at c.args.lists.now c.args.node) = c.width-w.ensures.0 in
-    let inside : c.args.reached.from + (1 + 2 * c.width-w.result + c.args.length) ≤ length c.args.old.now = omega (arith, wide, fork_inside c.requires.1, c.requires.1.entered.sound.inside.ends) in
+    let inside : c.args.reached.from + (1 + 2 * c.width-w.result + c.args.length) ≤ length c.args.old.now = omega (arith, wide, fork_inside c.requires, c.requires.entered.sound.inside.ends) in
     let short : length c.args.old.now ≤ farthest = omega arith in
     omega (arith, inside, short)
 
 pub kept-overflow_add-from-2 : goal.kept-overflow_add-from-2
 kept-overflow_add-from-2 t c =
     let wide : c.width-w.result ≡ length (list_at c.args.lists.now c.args.node) = c.width-w.ensures.0 in
-    let inside : c.args.reached.from + (1 + 2 * c.width-w.result + c.args.length) ≤ length c.args.old.now = omega (arith, wide, fork_inside c.requires.1, c.requires.1.entered.sound.inside.ends) in
+    let inside : c.args.reached.from + (1 + 2 * c.width-w.result + c.args.length) ≤ length c.args.old.now = omega (arith, wide, fork_inside c.requires, c.requires.entered.sound.inside.ends) in
     let short : length c.args.old.now ≤ farthest = omega arith in
     omega (arith, inside, short)
 
 pub kept-overflow_add-at : goal.kept-overflow_add-at
 kept-overflow_add-at t c =
     let wide : c.width-w.result ≡ length (list_at c.args.lists.now c.args.node) = c.width-w.ensures.0 in
-    let inside : c.args.reached.from + (1 + 2 * c.width-w.result + c.args.length) ≤ length c.args.old.now = omega (arith, wide, fork_inside c.requires.1, c.requires.1.entered.sound.inside.ends) in
-    let near : c.args.reached.at + (1 + 2 * c.width-w.result + c.args.length) ≤ farthest = omega (arith, inside, c.requires.1.entered.sound.place) in
+    let inside : c.args.reached.from + (1 + 2 * c.width-w.result + c.args.length) ≤ length c.args.old.now = omega (arith, wide, fork_inside c.requires, c.requires.entered.sound.inside.ends) in
+    let near : c.args.reached.at + (1 + 2 * c.width-w.result + c.args.length) ≤ farthest = omega (arith, inside, c.requires.entered.sound.place) in
     omega (arith, near)
 
 pub kept-overflow_add-at-2 : goal.kept-overflow_add-at-2
 kept-overflow_add-at-2 t c =
     let wide : c.width-w.result ≡ length (list_at c.args.lists.now c.args.node) = c.width-w.ensures.0 in
-    let inside : c.args.reached.from + (1 + 2 * c.width-w.result + c.args.length) ≤ length c.args.old.now = omega (arith, wide, fork_inside c.requires.1, c.requires.1.entered.sound.inside.ends) in
-    let near : c.args.reached.at + (1 + 2 * c.width-w.result + c.args.length) ≤ farthest = omega (arith, inside, c.requires.1.entered.sound.place) in
+    let inside : c.args.reached.from + (1 + 2 * c.width-w.result + c.args.length) ≤ length c.args.old.now = omega (arith, wide, fork_inside c.requires, c.requires.entered.sound.inside.ends) in
+    let near : c.args.reached.at + (1 + 2 * c.width-w.result + c.args.length) ≤ farthest = omega (arith, inside, c.requires.entered.sound.place) in
     omega (arith, near)
 
 pub kept-move_snapshot-requires : goal.kept-move_snapshot-requires
 kept-move_snapshot-requires t c =
     let wide : c.width-w.result ≡ length (list_at c.args.lists.now c.args.node) = c.width-w.ensures.0 in
-    let standing : let s = c.args in Standing s.t.now s.lists.now s.node s.old.now (s.reached.from + 1 + c.width-w.result) = subst (λ (n : ℕ). Standing c.args.t.now c.args.lists.now c.args.node c.args.old.now (c.args.reached.from + 1 + n)) (sym wide) (forked_at c.requires.1).second in
+    let standing : let s = c.args in Standing s.t.now s.lists.now s.node s.old.now (s.reached.from + 1 + c.width-w.result) = subst (λ (n : ℕ). Standing c.args.t.now c.args.lists.now c.args.node c.args.old.now (c.args.reached.from + 1 + n)) (sym wide) (forked_at c.requires).second in
     let step : let s = c.args in AdvancedBy (1 + 2 * length (list_at s.lists.now s.node) + s.length) s.reached c.advanced.result = subst (λ (n : ℕ). AdvancedBy (1 + 2 * n + c.args.length) c.args.reached c.advanced.result) wide c.advanced.ensures in
     let word : to_z w64 (of_z w64 (at c.args.old.now c.args.reached.from)) ≡ at c.args.old.now c.args.reached.from = to_z-of_z w64 _ (search rules) in
-    let same : c.taken-same.result ≡ taken_node c.args.t.now c.args.node (holds c.requires.1.fork.condition) = let k = c.requires.1.entered.known in c.taken-same.ensures ∙ ap₂ {C = ℕ} (λ (x y : ℕ). choose (holds (to_z w64 (of_z w64 (at c.args.old.now c.args.reached.from)))) x y) (read_node_lem k (λ n. n.b) refl) (read_node_lem k (λ n. n.c) refl) ∙ ap (λ (z : ℤ). taken_node c.args.t.now c.args.node (holds z)) (word ∙ sym (forked_at c.requires.1).condition) in
-    let inside : c.args.reached.from + (1 + 2 * c.width-w.result + c.args.length) ≤ length c.args.old.now = omega (arith, wide, fork_inside c.requires.1, c.requires.1.entered.sound.inside.ends) in
-    let near : c.args.reached.at + (1 + 2 * c.width-w.result + c.args.length) ≤ farthest = omega (arith, inside, c.requires.1.entered.sound.place) in
-    (standing, (kept_near c.requires.1 step same c.visit-gone.result _ _ c.visit-gone.ensures c.in-Accepted.is, omega (arith, near)))
+    let same : c.taken-same.result ≡ taken_node c.args.t.now c.args.node (holds c.requires.fork.condition) = let k = c.requires.entered.known in c.taken-same.ensures ∙ ap₂ {C = ℕ} (λ (x y : ℕ). choose (holds (to_z w64 (of_z w64 (at c.args.old.now c.args.reached.from)))) x y) (read_node_lem k (λ n. n.b) refl) (read_node_lem k (λ n. n.c) refl) ∙ ap (λ (z : ℤ). taken_node c.args.t.now c.args.node (holds z)) (word ∙ sym (forked_at c.requires).condition) in
+    let inside : c.args.reached.from + (1 + 2 * c.width-w.result + c.args.length) ≤ length c.args.old.now = omega (arith, wide, fork_inside c.requires, c.requires.entered.sound.inside.ends) in
+    let near : c.args.reached.at + (1 + 2 * c.width-w.result + c.args.length) ≤ farthest = omega (arith, inside, c.requires.entered.sound.place) in
+    (standing, (kept_near c.requires step same c.visit-gone.result _ _ c.visit-gone.ensures c.in-Accepted.is, omega (arith, near)))
 
 pub kept-shape_of-out-then-not-move_snapshot : goal.kept-shape_of-out-then-not-move_snapshot
 kept-shape_of-out-then-not-move_snapshot t c = c.move_snapshot.auto.out ∙ c.visit-gone.auto.out
@@ -298,11 +298,11 @@ kept-returns-then-not-move_snapshot t c =
     let wide : c.width-w.result ≡ length (list_at c.args.lists.now c.args.node) = c.width-w.ensures.0 in
     let step : let s = c.args in AdvancedBy (1 + 2 * length (list_at s.lists.now s.node) + s.length) s.reached c.advanced.result = subst (λ (n : ℕ). AdvancedBy (1 + 2 * n + c.args.length) c.args.reached c.advanced.result) wide c.advanced.ensures in
     let word : to_z w64 (of_z w64 (at c.args.old.now c.args.reached.from)) ≡ at c.args.old.now c.args.reached.from = to_z-of_z w64 _ (search rules) in
-    let same : c.taken-same.result ≡ taken_node c.args.t.now c.args.node (holds c.requires.1.fork.condition) = let k = c.requires.1.entered.known in c.taken-same.ensures ∙ ap₂ {C = ℕ} (λ (x y : ℕ). choose (holds (to_z w64 (of_z w64 (at c.args.old.now c.args.reached.from)))) x y) (read_node_lem k (λ n. n.b) refl) (read_node_lem k (λ n. n.c) refl) ∙ ap (λ (z : ℤ). taken_node c.args.t.now c.args.node (holds z)) (word ∙ sym (forked_at c.requires.1).condition) in
+    let same : c.taken-same.result ≡ taken_node c.args.t.now c.args.node (holds c.requires.fork.condition) = let k = c.requires.entered.known in c.taken-same.ensures ∙ ap₂ {C = ℕ} (λ (x y : ℕ). choose (holds (to_z w64 (of_z w64 (at c.args.old.now c.args.reached.from)))) x y) (read_node_lem k (λ n. n.b) refl) (read_node_lem k (λ n. n.c) refl) ∙ ap (λ (z : ℤ). taken_node c.args.t.now c.args.node (holds z)) (word ∙ sym (forked_at c.requires).condition) in
     let MovesAt : ℕ → Type 0 = λ n. let vs = list_at c.args.lists.now c.args.node in MovedAs (moved_all (types_of c.args.t.now) vs (olds c.args.old.now (c.args.reached.from + 1 + n) vs) c.visit-gone.result.changes.values) c.move_snapshot.result c.visit-gone.last.1.1.1.1.1.1.1.1.0 (c.args.reached.at + 1 + n) c.move_snapshot.new.out in
     let moves : MovesAt (length (list_at c.args.lists.now c.args.node)) = subst MovesAt wide c.move_snapshot.ensures in
-    kept_broken c.requires.1 step same c.visit-gone.result _ _ c.visit-gone.ensures c.in-Accepted.is
-    c.move_snapshot.result _ moves (not-true _ c.if-not-move_snapshot.true) c.stopped.result c.stopped.ensures _
+    kept_broken c.requires step same c.visit-gone.result _ _ c.visit-gone.ensures c.in-Accepted.is
+    c.move_snapshot.result _ moves c.if-not-move_snapshot.true c.stopped.result c.stopped.ensures _
 
 pub kept-shape_of-out : goal.kept-shape_of-out
 kept-shape_of-out t c = c.put.auto.out ∙ c.move_snapshot.auto.out ∙ c.visit-gone.auto.out
@@ -312,11 +312,11 @@ kept-returns t c =
     let wide : c.width-w.result ≡ length (list_at c.args.lists.now c.args.node) = c.width-w.ensures.0 in
     let step : let s = c.args in AdvancedBy (1 + 2 * length (list_at s.lists.now s.node) + s.length) s.reached c.advanced.result = subst (λ (n : ℕ). AdvancedBy (1 + 2 * n + c.args.length) c.args.reached c.advanced.result) wide c.advanced.ensures in
     let word : to_z w64 (of_z w64 (at c.args.old.now c.args.reached.from)) ≡ at c.args.old.now c.args.reached.from = to_z-of_z w64 _ (search rules) in
-    let same : c.taken-same.result ≡ taken_node c.args.t.now c.args.node (holds c.requires.1.fork.condition) = let k = c.requires.1.entered.known in c.taken-same.ensures ∙ ap₂ {C = ℕ} (λ (x y : ℕ). choose (holds (to_z w64 (of_z w64 (at c.args.old.now c.args.reached.from)))) x y) (read_node_lem k (λ n. n.b) refl) (read_node_lem k (λ n. n.c) refl) ∙ ap (λ (z : ℤ). taken_node c.args.t.now c.args.node (holds z)) (word ∙ sym (forked_at c.requires.1).condition) in
+    let same : c.taken-same.result ≡ taken_node c.args.t.now c.args.node (holds c.requires.fork.condition) = let k = c.requires.entered.known in c.taken-same.ensures ∙ ap₂ {C = ℕ} (λ (x y : ℕ). choose (holds (to_z w64 (of_z w64 (at c.args.old.now c.args.reached.from)))) x y) (read_node_lem k (λ n. n.b) refl) (read_node_lem k (λ n. n.c) refl) ∙ ap (λ (z : ℤ). taken_node c.args.t.now c.args.node (holds z)) (word ∙ sym (forked_at c.requires).condition) in
     let MovesAt : ℕ → Type 0 = λ n. let vs = list_at c.args.lists.now c.args.node in MovedAs (moved_all (types_of c.args.t.now) vs (olds c.args.old.now (c.args.reached.from + 1 + n) vs) c.visit-gone.result.changes.values) c.move_snapshot.result c.visit-gone.last.1.1.1.1.1.1.1.1.0 (c.args.reached.at + 1 + n) c.move_snapshot.new.out in
     let moves : MovesAt (length (list_at c.args.lists.now c.args.node)) = subst MovesAt wide c.move_snapshot.ensures in
-    kept_answer c.requires.1 step same c.visit-gone.result _ _ c.visit-gone.ensures c.in-Accepted.is
-    c.move_snapshot.result _ moves (not-false _ c.if-not-move_snapshot.false) c.put.new.out
+    kept_answer c.requires step same c.visit-gone.result _ _ c.visit-gone.ensures c.in-Accepted.is
+    c.move_snapshot.result _ moves c.if-not-move_snapshot.false c.put.new.out
     (c.put.ensures ∙ ap (set c.move_snapshot.new.out c.args.reached.at) word)
 
 -- ======== 
@@ -324,19 +324,19 @@ kept-returns t c =
 -- Assumes nothing.
 
 pub looped-count-counted-requires : goal.looped-count-counted-requires
-looped-count-counted-requires t c = c.requires.1
+looped-count-counted-requires t c = c.requires
 
 pub looped-iterate-requires : goal.looped-iterate-requires
 looped-iterate-requires t c =
     let back : to_z w64 (of_z w64 c.in-Is.new) ≡ c.in-Is.new = word_back c.in-Is.new (omega arith) in
-    (omega (arith, c.requires.0), looped_counted c.requires.1 c.count-counted.result _ _ c.count-counted.ensures c.in-Is.is back)
+    (omega (arith, c.decreases), looped_counted c.requires c.count-counted.result _ _ c.count-counted.ensures c.in-Is.is back)
 
 pub looped-shape_of-out-in-Refused : goal.looped-shape_of-out-in-Refused
 looped-shape_of-out-in-Refused t c = c.count-counted.auto.out
 
 pub looped-returns-in-Refused : goal.looped-returns-in-Refused
 looped-returns-in-Refused t c =
-    looped_refused c.requires.1 c.count-counted.result _ _ c.count-counted.ensures c.in-Refused.is c.stopped.result c.stopped.ensures _
+    looped_refused c.requires c.count-counted.result _ _ c.count-counted.ensures c.in-Refused.is c.stopped.result c.stopped.ensures _
 
 pub looped-shape_of-out-in-Is : goal.looped-shape_of-out-in-Is
 looped-shape_of-out-in-Is t c = c.iterate.auto.out ∙ c.count-counted.auto.out
@@ -344,7 +344,7 @@ looped-shape_of-out-in-Is t c = c.iterate.auto.out ∙ c.count-counted.auto.out
 pub looped-returns-in-Is : goal.looped-returns-in-Is
 looped-returns-in-Is t c =
     let back : to_z w64 (of_z w64 c.in-Is.new) ≡ c.in-Is.new = word_back c.in-Is.new (omega arith) in
-    looped_answer c.requires.1 c.count-counted.result _ _ c.count-counted.ensures c.in-Is.is back c.iterate.result _
+    looped_answer c.requires c.count-counted.result _ _ c.count-counted.ensures c.in-Is.is back c.iterate.result _
     c.iterate.ensures
 
 -- ======== 
@@ -352,16 +352,16 @@ looped-returns-in-Is t c =
 -- Assumes nothing.
 
 pub parts-overflow_mul-node : goal.parts-overflow_mul-node
-parts-overflow_mul-node t c = omega (arith, node_bytes c.requires.1.known)
+parts-overflow_mul-node t c = omega (arith, node_bytes c.requires.known)
 
 pub parts-overflow_add-base : goal.parts-overflow_add-base
-parts-overflow_add-base t c = omega (arith, node_bytes c.requires.1.known)
+parts-overflow_add-base t c = omega (arith, node_bytes c.requires.known)
 
 pub parts-kind-k-requires : goal.parts-kind-k-requires
-parts-kind-k-requires t c = node_bytes c.requires.1.known
+parts-kind-k-requires t c = node_bytes c.requires.known
 
 pub parts-assign-requires : goal.parts-assign-requires
-parts-assign-requires t c = enter c.requires.1 (read_kind c.requires.1.known c.kind-k.ensures c.if-k-eq17.true)
+parts-assign-requires t c = enter c.requires (read_kind c.requires.known c.kind-k.ensures c.if-k-eq17.true)
 
 pub parts-shape_of-out-then-k-eq17 : goal.parts-shape_of-out-then-k-eq17
 parts-shape_of-out-then-k-eq17 t c = c.assign.auto.out
@@ -409,39 +409,39 @@ parts-returns t c = c.looped.ensures
 -- Assumes nothing.
 
 pub pay-returns-then-left-eq0 : goal.pay-returns-then-left-eq0
-pay-returns-then-left-eq0 t c = pay_dry c.requires.1 c.if-left-eq0.true c.stopped.result c.stopped.ensures c.args.out.now c.args.out.now
+pay-returns-then-left-eq0 t c = pay_dry c.requires c.if-left-eq0.true c.stopped.result c.stopped.ensures c.args.out.now c.args.out.now
 
 pub pay-stepped-requires : goal.pay-stepped-requires
-pay-stepped-requires t c = pay_steppable c.requires.1 (omega arith) c.if-left-eq0.false
+pay-stepped-requires t c = pay_steppable c.requires (omega arith) c.if-left-eq0.false
 
 pub pay-parts-inside-requires : goal.pay-parts-inside-requires
-pay-parts-inside-requires t c = (omega (arith, c.requires.0), pay_inner c.requires.1 c.stepped.ensures)
+pay-parts-inside-requires t c = (omega (arith, c.decreases), pay_inner c.requires c.stepped.ensures)
 
 pub pay-shape_of-out-in_default : goal.pay-shape_of-out-in_default
 pay-shape_of-out-in_default t c = c.parts-inside.auto.out
 
 pub pay-returns-in_default : goal.pay-returns-in_default
 pay-returns-in_default t c =
-    pay_refused c.requires.1 c.stepped.ensures c.parts-inside.result c.args.out.now _ c.parts-inside.ensures c.in_default.is _
+    pay_refused c.requires c.stepped.ensures c.parts-inside.result c.args.out.now _ c.parts-inside.ensures c.in_default.is _
 
 pub pay-overflow_sub-behind : goal.pay-overflow_sub-behind
 pay-overflow_sub-behind t c =
-    omega (arith, pay_place c.requires.1 c.stepped.ensures c.parts-inside.result c.args.out.now _ c.parts-inside.ensures c.in-Accepted.is)
+    omega (arith, pay_place c.requires c.stepped.ensures c.parts-inside.result c.args.out.now _ c.parts-inside.ensures c.in-Accepted.is)
 
 pub pay-overflow_sub-left : goal.pay-overflow_sub-left
 pay-overflow_sub-left t c =
-    omega (arith, pay_left c.requires.1 c.stepped.ensures c.parts-inside.result c.args.out.now _ c.parts-inside.ensures c.in-Accepted.is)
+    omega (arith, pay_left c.requires c.stepped.ensures c.parts-inside.result c.args.out.now _ c.parts-inside.ensures c.in-Accepted.is)
 
 pub pay-open-requires : goal.pay-open-requires
 pay-open-requires t c =
-    pay_openable c.requires.1 c.stepped.ensures c.parts-inside.result c.args.out.now _ c.parts-inside.ensures c.in-Accepted.is
+    pay_openable c.requires c.stepped.ensures c.parts-inside.result c.args.out.now _ c.parts-inside.ensures c.in-Accepted.is
 
 pub pay-shape_of-out : goal.pay-shape_of-out
 pay-shape_of-out t c = c.«open».auto.0 ∙ c.parts-inside.auto.out
 
 pub pay-returns : goal.pay-returns
 pay-returns t c =
-    pay_answer c.requires.1 c.stepped.ensures c.parts-inside.result c.args.out.now _ c.parts-inside.ensures c.in-Accepted.is
+    pay_answer c.requires c.stepped.ensures c.parts-inside.result c.args.out.now _ c.parts-inside.ensures c.in-Accepted.is
     c.«open».new.0 c.«open».ensures
 
 -- ======== 
@@ -449,17 +449,17 @@ pay-returns t c =
 -- Assumes nothing.
 
 pub sequence-overflow_mul-place : goal.sequence-overflow_mul-place
-sequence-overflow_mul-place t c = omega (arith, node_bytes c.requires.1.known)
+sequence-overflow_mul-place t c = omega (arith, node_bytes c.requires.known)
 
 pub sequence-overflow_add-place : goal.sequence-overflow_add-place
-sequence-overflow_add-place t c = omega (arith, node_bytes c.requires.1.known)
+sequence-overflow_add-place t c = omega (arith, node_bytes c.requires.known)
 
 pub sequence-child_a-requires : goal.sequence-child_a-requires
-sequence-child_a-requires t c = node_bytes c.requires.1.known
+sequence-child_a-requires t c = node_bytes c.requires.known
 
 pub sequence-visit-first-requires : goal.sequence-visit-first-requires
 sequence-visit-first-requires t c =
-    let first : c.child_a.result ≡ (node_at c.args.t.now c.args.node).a = read_node_lem c.requires.1.known (λ n. n.a) c.child_a.ensures in
+    let first : c.child_a.result ≡ (node_at c.args.t.now c.args.node).a = read_node_lem c.requires.known (λ n. n.a) c.child_a.ensures in
     let h = c.requires in
     (omega (arith, h.0, first_below h.1 _ first), first_visitable h.1 _ first)
 
@@ -468,26 +468,26 @@ sequence-shape_of-out-in_default t c = c.visit-first.auto.out
 
 pub sequence-returns-in_default : goal.sequence-returns-in_default
 sequence-returns-in_default t c =
-    let first : c.child_a.result ≡ (node_at c.args.t.now c.args.node).a = read_node_lem c.requires.1.known (λ n. n.a) c.child_a.ensures in
-    first_refused c.requires.1 _ first c.visit-first.result _ _ c.visit-first.ensures c.in_default.is _
+    let first : c.child_a.result ≡ (node_at c.args.t.now c.args.node).a = read_node_lem c.requires.known (λ n. n.a) c.child_a.ensures in
+    first_refused c.requires _ first c.visit-first.result _ _ c.visit-first.ensures c.in_default.is _
 
 pub sequence-child_b-requires : goal.sequence-child_b-requires
-sequence-child_b-requires t c = node_bytes c.requires.1.known
+sequence-child_b-requires t c = node_bytes c.requires.known
 
 pub sequence-visit-requires : goal.sequence-visit-requires
 sequence-visit-requires t c =
-    let first : c.child_a.result ≡ (node_at c.args.t.now c.args.node).a = read_node_lem c.requires.1.known (λ n. n.a) c.child_a.ensures in
-    let second = read_node_lem c.requires.1.known (λ n. n.b) c.child_b.ensures in
-    (omega (arith, c.requires.0, second_below c.requires.1 _ second), second_visitable c.requires.1 _ first c.visit-first.result _ _ c.visit-first.ensures c.in-Accepted.is _ second)
+    let first : c.child_a.result ≡ (node_at c.args.t.now c.args.node).a = read_node_lem c.requires.known (λ n. n.a) c.child_a.ensures in
+    let second = read_node_lem c.requires.known (λ n. n.b) c.child_b.ensures in
+    (omega (arith, c.decreases, second_below c.requires _ second), second_visitable c.requires _ first c.visit-first.result _ _ c.visit-first.ensures c.in-Accepted.is _ second)
 
 pub sequence-shape_of-out : goal.sequence-shape_of-out
 sequence-shape_of-out t c = c.visit.auto.out ∙ c.visit-first.auto.out
 
 pub sequence-returns : goal.sequence-returns
 sequence-returns t c =
-    let first : c.child_a.result ≡ (node_at c.args.t.now c.args.node).a = read_node_lem c.requires.1.known (λ n. n.a) c.child_a.ensures in
-    sequence_answer c.requires.1 _ first c.visit-first.result _ _ c.visit-first.ensures c.in-Accepted.is _
-    (read_node_lem c.requires.1.known (λ n. n.b) c.child_b.ensures)
+    let first : c.child_a.result ≡ (node_at c.args.t.now c.args.node).a = read_node_lem c.requires.known (λ n. n.a) c.child_a.ensures in
+    sequence_answer c.requires _ first c.visit-first.result _ _ c.visit-first.ensures c.in-Accepted.is _
+    (read_node_lem c.requires.known (λ n. n.b) c.child_b.ensures)
     c.visit.result _ c.visit.ensures
 
 -- ======== 
@@ -495,24 +495,24 @@ sequence-returns t c =
 -- Assumes nothing.
 
 pub turn-visit-gone-requires : goal.turn-visit-gone-requires
-turn-visit-gone-requires t c = (omega (arith, c.requires.0), turn_visitable c.requires.1)
+turn-visit-gone-requires t c = (omega (arith, c.decreases), turn_visitable c.requires)
 
 pub turn-shape_of-out-in_default : goal.turn-shape_of-out-in_default
 turn-shape_of-out-in_default t c = c.visit-gone.auto.out
 
 pub turn-returns-in_default : goal.turn-returns-in_default
-turn-returns-in_default t c = turn_refused c.requires.1 c.visit-gone.result _ _ c.visit-gone.ensures c.in_default.is _
+turn-returns-in_default t c = turn_refused c.requires c.visit-gone.result _ _ c.visit-gone.ensures c.in_default.is _
 
 pub turn-snapped-requires : goal.turn-snapped-requires
 turn-snapped-requires t c =
-    (named_of c.requires.1.known, turn_sound c.requires.1 c.visit-gone.result _ _ c.visit-gone.ensures c.in-Accepted.is)
+    (named_of c.requires.known, turn_sound c.requires c.visit-gone.result _ _ c.visit-gone.ensures c.in-Accepted.is)
 
 pub turn-shape_of-out : goal.turn-shape_of-out
 turn-shape_of-out t c = c.snapped.auto.out ∙ c.visit-gone.auto.out
 
 pub turn-returns : goal.turn-returns
 turn-returns t c =
-    turn_answer c.requires.1 c.visit-gone.result _ _ c.visit-gone.ensures c.in-Accepted.is c.snapped.result _ c.snapped.ensures
+    turn_answer c.requires c.visit-gone.result _ _ c.visit-gone.ensures c.in-Accepted.is c.snapped.result _ c.snapped.ensures
 
 -- ======== 
 -- `turns` in the cycle. The loop's invariant: so many iterations have come to this; its measure is the iterations left.
@@ -523,18 +523,18 @@ turns-loop-i-init t c = (omega arith, λ h. so_far_none h c.args.count c.args.ou
 
 pub turns-turn-so_far-requires : goal.turns-turn-so_far-requires
 turns-turn-so_far-requires t c =
-    let so_far : SoFar c.requires.1 c.args.count c.args.out.now c.loop-i.i c.loop-i.so_far c.loop-i.out = c.loop-i.invariant.1 c.requires.1 in
-    (omega (arith, c.requires.0), again_turnable c.requires.1 c.args.count _ c.loop-i.i c.loop-i.so_far c.loop-i.out so_far)
+    let so_far : SoFar c.requires c.args.count c.args.out.now c.loop-i.i c.loop-i.so_far c.loop-i.out = c.loop-i.invariant.1 c.requires in
+    (omega (arith, c.decreases), again_turnable c.requires c.args.count _ c.loop-i.i c.loop-i.so_far c.loop-i.out so_far)
 
 pub turns-shape_of-out-in_default : goal.turns-shape_of-out-in_default
 turns-shape_of-out-in_default t c =
-    let so_far : SoFar c.requires.1 c.args.count c.args.out.now c.loop-i.i c.loop-i.so_far c.loop-i.out = c.loop-i.invariant.1 c.requires.1 in
+    let so_far : SoFar c.requires c.args.count c.args.out.now c.loop-i.i c.loop-i.so_far c.loop-i.out = c.loop-i.invariant.1 c.requires in
     c.turn-so_far.auto.out ∙ so_far.long
 
 pub turns-returns-in_default : goal.turns-returns-in_default
 turns-returns-in_default t c =
-    let so_far : SoFar c.requires.1 c.args.count c.args.out.now c.loop-i.i c.loop-i.so_far c.loop-i.out = c.loop-i.invariant.1 c.requires.1 in
-    again_refused c.requires.1 c.args.count _ c.loop-i.i c.loop-i.so_far c.loop-i.out so_far c.loop-i-test.true
+    let so_far : SoFar c.requires c.args.count c.args.out.now c.loop-i.i c.loop-i.so_far c.loop-i.out = c.loop-i.invariant.1 c.requires in
+    again_refused c.requires c.args.count _ c.loop-i.i c.loop-i.so_far c.loop-i.out so_far c.loop-i-test.true
     c.turn-so_far.result _ c.turn-so_far.ensures c.in_default.is _
 
 pub turns-loop-i-preserved : goal.turns-loop-i-preserved
@@ -543,50 +543,50 @@ turns-loop-i-preserved t c =
 
 pub turns-shape_of-out : goal.turns-shape_of-out
 turns-shape_of-out t c =
-    let so_far : SoFar c.requires.1 c.args.count c.args.out.now c.loop-i.i c.loop-i.so_far c.loop-i.out = c.loop-i.invariant.1 c.requires.1 in
+    let so_far : SoFar c.requires c.args.count c.args.out.now c.loop-i.i c.loop-i.so_far c.loop-i.out = c.loop-i.invariant.1 c.requires in
     so_far.long
 
 pub turns-returns : goal.turns-returns
 turns-returns t c =
-    let so_far : SoFar c.requires.1 c.args.count c.args.out.now c.loop-i.i c.loop-i.so_far c.loop-i.out = c.loop-i.invariant.1 c.requires.1 in
-    turns_all c.requires.1 c.args.count _ c.loop-i.i c.loop-i.so_far c.loop-i.out so_far c.loop-i-test.false c.loop-i.invariant.0
+    let so_far : SoFar c.requires c.args.count c.args.out.now c.loop-i.i c.loop-i.so_far c.loop-i.out = c.loop-i.invariant.1 c.requires in
+    turns_all c.requires c.args.count _ c.loop-i.i c.loop-i.so_far c.loop-i.out so_far c.loop-i-test.false c.loop-i.invariant.0
 
 -- ======== 
 -- `visit` in the cycle: the entry is met, and then skipped, or paid for and walked.
 -- Assumes nothing.
 
 pub visit-meet-met-requires : goal.visit-meet-met-requires
-visit-meet-met-requires t c = (c.requires.1.sound.inside, (row_known c.requires.1.known).inside)
+visit-meet-met-requires t c = (c.requires.sound.inside, (row_known c.requires.known).inside)
 
 pub visit-returns-in_default : goal.visit-returns-in_default
 visit-returns-in_default t c =
-    visit_broken c.args.last c.requires.1 c.meet-met.result c.meet-met.ensures c.in_default.is c.stopped.result
+    visit_broken c.args.last c.requires c.meet-met.result c.meet-met.ensures c.in_default.is c.stopped.result
     c.stopped.ensures _ _
 
 pub visit-unchanged-requires : goal.visit-unchanged-requires
-visit-unchanged-requires t c = row_known c.requires.1.known
+visit-unchanged-requires t c = row_known c.requires.known
 
 pub visit-skip-requires : goal.visit-skip-requires
-visit-skip-requires t c = visit_sound c.args.last c.requires.1 c.meet-met.result c.meet-met.ensures c.in-Is.is
+visit-skip-requires t c = visit_sound c.args.last c.requires c.meet-met.result c.meet-met.ensures c.in-Is.is
 
 pub visit-shape_of-out-then-unchanged : goal.visit-shape_of-out-then-unchanged
 visit-shape_of-out-then-unchanged t c = c.skip.auto.out
 
 pub visit-returns-then-unchanged : goal.visit-returns-then-unchanged
 visit-returns-then-unchanged t c =
-    visit_skipped c.args.last c.requires.1 c.meet-met.result c.meet-met.ensures c.in-Is.is c.unchanged.ensures
+    visit_skipped c.args.last c.requires c.meet-met.result c.meet-met.ensures c.in-Is.is c.unchanged.ensures
     c.skip.result _ _
     c.if-unchanged.true c.skip.ensures
 
 pub visit-pay-requires : goal.visit-pay-requires
 visit-pay-requires t c =
-    (omega (arith, c.requires.0), visit_payable c.args.last c.requires.1 c.meet-met.result c.meet-met.ensures c.in-Is.is c.unchanged.ensures c.args.reached c.args.out.now c.args.out.now c.if-unchanged.false)
+    (omega (arith, c.decreases), visit_payable c.args.last c.requires c.meet-met.result c.meet-met.ensures c.in-Is.is c.unchanged.ensures c.args.reached c.args.out.now c.args.out.now c.if-unchanged.false)
 
 pub visit-shape_of-out : goal.visit-shape_of-out
 visit-shape_of-out t c = c.pay.auto.out
 
 pub visit-returns : goal.visit-returns
 visit-returns t c =
-    visit_paid c.args.last c.requires.1 c.meet-met.result c.meet-met.ensures c.in-Is.is c.unchanged.ensures
+    visit_paid c.args.last c.requires c.meet-met.result c.meet-met.ensures c.in-Is.is c.unchanged.ensures
     c.pay.result _ _
     c.if-unchanged.false c.pay.ensures

@@ -1,7 +1,7 @@
 -- `patchlist::listing::list_table` meets its contract: a table that is accepted has a header, and at most 32 variables.
 -- Assumes nothing.
 use native.Mathlib.Omega.{arith}
-use Rattle.rules.specs.Laws.Header.{Sized}
+use Rattle.rules.proofs.Laws.Header.{Sized}
 use Rattle.run.specs.Laws.Fitting.{count_is}
 use Rattle.patchlist.proofs.Sessions.{table_sized, table_refused, table_accepted}
 use Rattle.patchlist.proofs.listing.list_table.Goals as goal

@@ -82,7 +82,7 @@ returns-then-not-ends c =
     let count : nat_abs (kept size) ≡ nat_abs size = ap nat_abs size_back in
     let s = c.args in
     not_last s.node s.last s.old.now s.from s.end c.requires.0 c.if-end-from-lt3.false sized
-    (ap (λ (n : ℕ). s.from + n) count) (sym c.ends.ensures ∙ not-true _ c.if-not-ends.true)
+    (ap (λ (n : ℕ). s.from + n) count) (sym c.ends.ensures ∙ c.if-not-ends.true)
 
 pub returns-then-not-in_limits : goal.returns-then-not-in_limits
 returns-then-not-in_limits c =
@@ -95,10 +95,10 @@ returns-then-not-in_limits c =
     let steps_back : kept steps ≡ steps = to_z-of_z w64 steps (search rules) in
     let s = c.args in
     outside_limits s.node s.last s.old.now s.from s.end c.requires.0 c.if-end-from-lt3.false sized
-    steps_back (sym c.in_limits.ensures ∙ not-true _ c.if-not-in_limits.true)
+    steps_back (sym c.in_limits.ensures ∙ c.if-not-in_limits.true)
 
 pub limit_of-requires : goal.limit_of-requires
-limit_of-requires c = sym c.in_limits.ensures ∙ not-false _ c.if-not-in_limits.false
+limit_of-requires c = sym c.in_limits.ensures ∙ c.if-not-in_limits.false
 
 pub returns : goal.returns
 returns c =
@@ -113,5 +113,5 @@ returns c =
     let steps_back : kept steps ≡ steps = to_z-of_z w64 steps (search rules) in
     let s = c.args in
     entry_met s.node s.last s.old.now s.from s.end c.requires.0 c.if-end-from-lt3.false sized here
-    (ap (λ (n : ℕ). s.from + n) count) (sym c.ends.ensures ∙ not-false _ c.if-not-ends.false)
-    steps_back (sym c.in_limits.ensures ∙ not-false _ c.if-not-in_limits.false) c.limit_of.ensures
+    (ap (λ (n : ℕ). s.from + n) count) (sym c.ends.ensures ∙ c.if-not-ends.false)
+    steps_back (sym c.in_limits.ensures ∙ c.if-not-in_limits.false) c.limit_of.ensures

@@ -25,7 +25,7 @@ returns-then-not-in_type c =
     let y : ℤ = kept (at c.args.old.now (c.args.from + 1)) in
     let is_y : y ≡ at c.args.old.now (c.args.from + 1) = to_z-of_z w64 _ (search rules) in
     recalls_left c.requires room is_x is_y
-    (sym c.in_type.ensures ∙ not-true _ c.if-not-in_type.true) o
+    (sym c.in_type.ensures ∙ c.if-not-in_type.true) o
 
 pub returns-then-not-in_type-2 : goal.returns-then-not-in_type-2
 returns-then-not-in_type-2 c =
@@ -34,16 +34,16 @@ returns-then-not-in_type-2 c =
     let is_x : x ≡ at c.args.old.now c.args.from = to_z-of_z w64 _ (search rules) in
     let y : ℤ = kept (at c.args.old.now (c.args.from + 1)) in
     let is_y : y ≡ at c.args.old.now (c.args.from + 1) = to_z-of_z w64 _ (search rules) in
-    let number_x : Number x = number_by x (sym c.in_type.ensures ∙ not-false _ c.if-not-in_type.false) in
+    let number_x : Number x = number_by x (sym c.in_type.ensures ∙ c.if-not-in_type.false) in
     recalls_right c.requires room is_x is_y number_x
-    (sym c.in_type-2.ensures ∙ not-true _ c.if-not-in_type-2.true) o
+    (sym c.in_type-2.ensures ∙ c.if-not-in_type-2.true) o
 
 pub compute-result-requires : goal.compute-result-requires
 compute-result-requires c =
     let x : ℤ = kept (at c.args.old.now c.args.from) in
-    let number_x : Number x = number_by x (sym c.in_type.ensures ∙ not-false _ c.if-not-in_type.false) in
+    let number_x : Number x = number_by x (sym c.in_type.ensures ∙ c.if-not-in_type.false) in
     let y : ℤ = kept (at c.args.old.now (c.args.from + 1)) in
-    let number_y : Number y = number_by y (sym c.in_type-2.ensures ∙ not-false _ c.if-not-in_type-2.false) in
+    let number_y : Number y = number_by y (sym c.in_type-2.ensures ∙ c.if-not-in_type-2.false) in
     (number_x, number_y)
 
 pub returns-in_default : goal.returns-in_default
@@ -53,8 +53,8 @@ returns-in_default c =
     let is_x : x ≡ at c.args.old.now c.args.from = to_z-of_z w64 _ (search rules) in
     let y : ℤ = kept (at c.args.old.now (c.args.from + 1)) in
     let is_y : y ≡ at c.args.old.now (c.args.from + 1) = to_z-of_z w64 _ (search rules) in
-    let number_x : Number x = number_by x (sym c.in_type.ensures ∙ not-false _ c.if-not-in_type.false) in
-    let number_y : Number y = number_by y (sym c.in_type-2.ensures ∙ not-false _ c.if-not-in_type-2.false) in
+    let number_x : Number x = number_by x (sym c.in_type.ensures ∙ c.if-not-in_type.false) in
+    let number_y : Number y = number_by y (sym c.in_type-2.ensures ∙ c.if-not-in_type-2.false) in
     recalls_none c.requires room is_x is_y number_x number_y
     o (c.compute-result.ensures o e) c.in_default.is
 
@@ -65,7 +65,7 @@ returns c =
     let is_x : x ≡ at c.args.old.now c.args.from = to_z-of_z w64 _ (search rules) in
     let y : ℤ = kept (at c.args.old.now (c.args.from + 1)) in
     let is_y : y ≡ at c.args.old.now (c.args.from + 1) = to_z-of_z w64 _ (search rules) in
-    let number_x : Number x = number_by x (sym c.in_type.ensures ∙ not-false _ c.if-not-in_type.false) in
-    let number_y : Number y = number_by y (sym c.in_type-2.ensures ∙ not-false _ c.if-not-in_type-2.false) in
+    let number_x : Number x = number_by x (sym c.in_type.ensures ∙ c.if-not-in_type.false) in
+    let number_y : Number y = number_by y (sym c.in_type-2.ensures ∙ c.if-not-in_type-2.false) in
     recalls_are c.requires room is_x is_y number_x number_y
     o (c.compute-result.ensures o e) c.in-Is.is

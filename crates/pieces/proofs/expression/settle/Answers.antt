@@ -8,7 +8,7 @@ use lib.ListN.{set}
 use Rattle.rules.specs.Tree.{Operator}
 use Rattle.rules.specs.Table.{operator, ty_of}
 use Rattle.rules.specs.Value.{minus}
-use Rattle.rules.specs.Laws.Parts.{number_of_kind}
+use Rattle.rules.proofs.Laws.Parts.{number_of_kind}
 use Rattle.run.specs.Code.{computed_as}
 use Rattle.run.specs.Laws.Numbers.{both_plain, two_put, word_back}
 use Rattle.pieces.specs.Change.{Near}

@@ -11,12 +11,12 @@ told f b e = subst (Fits (start f)) e f.snapshot-fits.ensures
 
 pub returns-then-not-snapshot_fits : goal.returns-then-not-snapshot_fits
 returns-then-not-snapshot_fits c =
-    patched_not c.requires.0 c.args.changes.now c.args.out.now c.args.at _ (told c false (not-true _ c.if-not-snapshot_fits.true))
+    patched_not c.requires.0 c.args.changes.now c.args.out.now c.args.at _ (told c false c.if-not-snapshot_fits.true)
 
 pub move_snapshot-requires : goal.move_snapshot-requires
-move_snapshot-requires c = (fits_standing c.requires.0 (told c true (not-false _ c.if-not-snapshot_fits.false)), c.requires.1)
+move_snapshot-requires c = (fits_standing c.requires.0 (told c true c.if-not-snapshot_fits.false), c.requires.1)
 
 pub returns : goal.returns
 returns c =
-    patched_as c.requires.0 c.args.changes.now c.args.out.now c.args.at _ (told c true (not-false _ c.if-not-snapshot_fits.false))
+    patched_as c.requires.0 c.args.changes.now c.args.out.now c.args.at _ (told c true c.if-not-snapshot_fits.false)
     c.move_snapshot.result c.move_snapshot.ensures

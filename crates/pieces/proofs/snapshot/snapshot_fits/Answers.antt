@@ -46,13 +46,13 @@ returns-then-not-in_type c =
     let read : Turn c.args.t.now c.args.lists.now c.args.node c.loop-i.i c.wide-v.result = turn c.requires.named (omega (arith, c.wide-count.ensures)) c.wide-v.ensures.0 in
     let answer : let i = c.loop-i.i in let s = c.args in in_type (type_of (types_of s.t.now) (get_or (list_at s.lists.now s.node) i 0)) (at s.old.now (s.from + i)) ≡ c.in_type.result = told read _ (search rules) c.in_type.result c.in_type.ensures in
     stands_not (types_of c.args.t.now) (list_at c.args.lists.now c.args.node) c.args.old.now c.args.from c.args.end c.requires.inside
-    (omega (arith, count)) c.loop-i.i read.below (answer ∙ not-true _ c.if-not-in_type.true)
+    (omega (arith, count)) c.loop-i.i read.below (answer ∙ c.if-not-in_type.true)
 
 pub loop-i-preserved : goal.loop-i-preserved
 loop-i-preserved c =
     let read : Turn c.args.t.now c.args.lists.now c.args.node c.loop-i.i c.wide-v.result = turn c.requires.named (omega (arith, c.wide-count.ensures)) c.wide-v.ensures.0 in
     let answer : let i = c.loop-i.i in let s = c.args in in_type (type_of (types_of s.t.now) (get_or (list_at s.lists.now s.node) i 0)) (at s.old.now (s.from + i)) ≡ c.in_type.result = told read _ (search rules) c.in_type.result c.in_type.ensures in
-    (omega arith, below_more _ _ c.loop-i.invariant.1 (answer ∙ not-false _ c.if-not-in_type.false))
+    (omega arith, below_more _ _ c.loop-i.invariant.1 (answer ∙ c.if-not-in_type.false))
 
 pub returns : goal.returns
 returns c =

@@ -5,7 +5,7 @@ use Prim.Native.Nat.{◌+◌}
 use lib.ListN.{set}
 use Rattle.rules.specs.Tree.{Operator}
 use Rattle.rules.specs.Table.{operator}
-use Rattle.rules.specs.Laws.Parts.{number_of_kind}
+use Rattle.rules.proofs.Laws.Parts.{number_of_kind}
 use native.Mathlib.Omega.{arith}
 use Rattle.run.specs.Code.{computed_as}
 use Rattle.run.specs.Laws.Numbers.{both_plain, two_put}

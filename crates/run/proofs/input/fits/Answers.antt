@@ -37,12 +37,12 @@ returns-then-not-in_type c =
     let count : c.pair-count.result ≡ variables c.args.t.now = count_is c.args.t.now c.pair-count.ensures.0 in
     let answer : in_type (type_by c.args.t.now c.loop-i.i) (at c.args.inputs.now c.loop-i.i) ≡ c.in_type.result = sym (c.in_type.ensures ∙ ap (in_type (type_by c.args.t.now c.loop-i.i)) (to_z-of_z w64 _ (search rules))) in
     fits_not c.args.t.now c.requires c.args.inputs.now c.loop-i.i (omega (arith, count))
-    (answer ∙ not-true _ c.if-not-in_type.true)
+    (answer ∙ c.if-not-in_type.true)
 
 pub loop-i-preserved : goal.loop-i-preserved
 loop-i-preserved c =
     let answer : in_type (type_by c.args.t.now c.loop-i.i) (at c.args.inputs.now c.loop-i.i) ≡ c.in_type.result = sym (c.in_type.ensures ∙ ap (in_type (type_by c.args.t.now c.loop-i.i)) (to_z-of_z w64 _ (search rules))) in
-    (omega arith, below_more _ _ c.loop-i.invariant.1 (answer ∙ not-false _ c.if-not-in_type.false))
+    (omega arith, below_more _ _ c.loop-i.invariant.1 (answer ∙ c.if-not-in_type.false))
 
 pub returns : goal.returns
 returns c =

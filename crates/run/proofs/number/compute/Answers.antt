@@ -3,7 +3,7 @@
 use mathlib.Core.Path.{◌≡◌, ◌∙◌}
 use Rattle.rules.specs.Tree.{Operator, apply}
 use Rattle.rules.specs.Table.{operator}
-use Rattle.rules.specs.Laws.Parts.{number_of_kind}
+use Rattle.rules.proofs.Laws.Parts.{number_of_kind}
 use Rattle.run.specs.Laws.Numbers.{both_plain, outside_below, outside_above, inside}
 use Rattle.run.proofs.number.compute.Goals as goal
 

@@ -13,51 +13,51 @@ use Rattle.run.specs.Laws.Taken.{take_below, take_runnable, take_listed, take_re
 use Rattle.run.proofs.statement.+branch_looped_parts_repeat_sequence_statement_take.Goals as goal
 
 pub branch-overflow_mul-place : goal.branch-overflow_mul-place
-branch-overflow_mul-place t c = omega (arith, node_bytes c.requires.1.inner.known)
+branch-overflow_mul-place t c = omega (arith, node_bytes c.requires.inner.known)
 
 pub branch-overflow_add-place : goal.branch-overflow_add-place
-branch-overflow_add-place t c = omega (arith, node_bytes c.requires.1.inner.known)
+branch-overflow_add-place t c = omega (arith, node_bytes c.requires.inner.known)
 
 pub branch-overflow_add-at : goal.branch-overflow_add-at
-branch-overflow_add-at t c = omega (arith, c.requires.1.inner.near)
+branch-overflow_add-at t c = omega (arith, c.requires.inner.near)
 
 pub branch-snapshot-after-requires : goal.branch-snapshot-after-requires
-branch-snapshot-after-requires t c = branch_listed c.requires.1
+branch-snapshot-after-requires t c = branch_listed c.requires
 
 pub branch-overflow_add-width : goal.branch-overflow_add-width
-branch-overflow_add-width t c = omega (arith, c.requires.1.inner.near)
+branch-overflow_add-width t c = omega (arith, c.requires.inner.near)
 
 pub branch-overflow_sub-width : goal.branch-overflow_sub-width
 branch-overflow_sub-width t c = omega (arith, c.snapshot-after.ensures.behind)
 
 pub branch-child_a-requires : goal.branch-child_a-requires
-branch-child_a-requires t c = node_bytes c.requires.1.inner.known
+branch-child_a-requires t c = node_bytes c.requires.inner.known
 
 pub branch-overflow_add-after : goal.branch-overflow_add-after
 branch-overflow_add-after t c = omega (arith, (test-requires c c.lifetimes).near)
 
 pub branch-evaluate-test-requires : goal.branch-evaluate-test-requires
-branch-evaluate-test-requires t c = test_evaluable c.requires.1 c.snapshot-after.ensures.behind c.child_a.ensures
+branch-evaluate-test-requires t c = test_evaluable c.requires c.snapshot-after.ensures.behind c.child_a.ensures
 
 pub branch-take-requires : goal.branch-take-requires
 branch-take-requires t c =
-    let test_value : GotTest c.requires.1 c.snapshot-after.ensures.behind c.in-Is.z c.in-Is.behind c.snapshot-after.new.out c.evaluate-test.new.out = got_test c.requires.1 c.snapshot-after.ensures.behind c.child_a.ensures _ _ _ c.evaluate-test.ensures c.in-Is.is in
-    (omega (arith, c.requires.0), branch_takeable c.requires.1 c.snapshot-after.ensures.behind test_value)
+    let test_value : GotTest c.requires c.snapshot-after.ensures.behind c.in-Is.z c.in-Is.behind c.snapshot-after.new.out c.evaluate-test.new.out = got_test c.requires c.snapshot-after.ensures.behind c.child_a.ensures _ _ _ c.evaluate-test.ensures c.in-Is.is in
+    (omega (arith, c.decreases), branch_takeable c.requires c.snapshot-after.ensures.behind test_value)
 
 pub branch-shape_of-out-in-Refused : goal.branch-shape_of-out-in-Refused
 branch-shape_of-out-in-Refused t c = c.evaluate-test.auto.out ∙ c.snapshot-after.auto.out
 
 pub branch-returns-in-Refused : goal.branch-returns-in-Refused
 branch-returns-in-Refused t c =
-    test_refused c.requires.1 c.snapshot-after.ensures.behind c.child_a.ensures _ _ _ c.evaluate-test.ensures c.in-Refused.is _ refl _ _
+    test_refused c.requires c.snapshot-after.ensures.behind c.child_a.ensures _ _ _ c.evaluate-test.ensures c.in-Refused.is _ refl _ _
 
 pub branch-shape_of-out-in-Is : goal.branch-shape_of-out-in-Is
 branch-shape_of-out-in-Is t c = c.take.auto.out ∙ c.put.auto.out ∙ c.evaluate-test.auto.out ∙ c.snapshot-after.auto.out
 
 pub branch-returns-in-Is : goal.branch-returns-in-Is
 branch-returns-in-Is t c =
-    let test_value : GotTest c.requires.1 c.snapshot-after.ensures.behind c.in-Is.z c.in-Is.behind c.snapshot-after.new.out c.evaluate-test.new.out = got_test c.requires.1 c.snapshot-after.ensures.behind c.child_a.ensures _ _ _ c.evaluate-test.ensures c.in-Is.is in
-    branch_answer c.requires.1 c.snapshot-after.ensures.behind test_value (omega arith) _ _ c.snapshot-after.ensures.laid c.put.ensures _ _
+    let test_value : GotTest c.requires c.snapshot-after.ensures.behind c.in-Is.z c.in-Is.behind c.snapshot-after.new.out c.evaluate-test.new.out = got_test c.requires c.snapshot-after.ensures.behind c.child_a.ensures _ _ _ c.evaluate-test.ensures c.in-Is.is in
+    branch_answer c.requires c.snapshot-after.ensures.behind test_value (omega arith) _ _ c.snapshot-after.ensures.laid c.put.ensures _ _
     c.take.ensures
 
 -- ======== 
@@ -65,32 +65,32 @@ branch-returns-in-Is t c =
 -- Assumes nothing.
 
 pub looped-overflow_mul-place : goal.looped-overflow_mul-place
-looped-overflow_mul-place t c = omega (arith, node_bytes c.requires.1.inner.known)
+looped-overflow_mul-place t c = omega (arith, node_bytes c.requires.inner.known)
 
 pub looped-overflow_add-place : goal.looped-overflow_add-place
-looped-overflow_add-place t c = omega (arith, node_bytes c.requires.1.inner.known)
+looped-overflow_add-place t c = omega (arith, node_bytes c.requires.inner.known)
 
 pub looped-overflow_add-at : goal.looped-overflow_add-at
-looped-overflow_add-at t c = omega (arith, c.requires.1.inner.near)
+looped-overflow_add-at t c = omega (arith, c.requires.inner.near)
 
 pub looped-snapshot-behind-requires : goal.looped-snapshot-behind-requires
-looped-snapshot-behind-requires t c = loop_listed c.requires.1
+looped-snapshot-behind-requires t c = loop_listed c.requires
 
 pub looped-child_a-requires : goal.looped-child_a-requires
-looped-child_a-requires t c = node_bytes c.requires.1.inner.known
+looped-child_a-requires t c = node_bytes c.requires.inner.known
 
 pub looped-evaluate-counted-requires : goal.looped-evaluate-counted-requires
-looped-evaluate-counted-requires t c = count_evaluable c.requires.1 c.snapshot-behind.ensures.behind c.child_a.ensures
+looped-evaluate-counted-requires t c = count_evaluable c.requires c.snapshot-behind.ensures.behind c.child_a.ensures
 
 pub looped-child_b-requires : goal.looped-child_b-requires
-looped-child_b-requires t c = node_bytes c.requires.1.inner.known
+looped-child_b-requires t c = node_bytes c.requires.inner.known
 
 pub looped-repeat-requires : goal.looped-repeat-requires
 looped-repeat-requires t c =
-    let count_value : GotCount c.requires.1 c.snapshot-behind.ensures.behind c.in-Is.z c.in-Is.end c.snapshot-behind.new.out c.evaluate-counted.new.out = got_count c.requires.1 c.snapshot-behind.ensures.behind c.child_a.ensures _ _ _ c.evaluate-counted.ensures c.in-Is.is in
+    let count_value : GotCount c.requires c.snapshot-behind.ensures.behind c.in-Is.z c.in-Is.end c.snapshot-behind.new.out c.evaluate-counted.new.out = got_count c.requires c.snapshot-behind.ensures.behind c.child_a.ensures _ _ _ c.evaluate-counted.ensures c.in-Is.is in
     (
-      omega (arith, c.requires.0, body_below c.requires.1 c.snapshot-behind.ensures.behind count_value c.child_b.ensures),
-      loop_repeatable c.requires.1 c.snapshot-behind.ensures.behind count_value c.child_b.ensures,
+      omega (arith, c.decreases, body_below c.requires c.snapshot-behind.ensures.behind count_value c.child_b.ensures),
+      loop_repeatable c.requires c.snapshot-behind.ensures.behind count_value c.child_b.ensures,
     )
 
 pub looped-shape_of-out-in-Refused : goal.looped-shape_of-out-in-Refused
@@ -98,7 +98,7 @@ looped-shape_of-out-in-Refused t c = c.evaluate-counted.auto.out ∙ c.snapshot-
 
 pub looped-returns-in-Refused : goal.looped-returns-in-Refused
 looped-returns-in-Refused t c =
-    count_refused c.requires.1 c.snapshot-behind.ensures.behind c.child_a.ensures _ _ _ c.evaluate-counted.ensures
+    count_refused c.requires c.snapshot-behind.ensures.behind c.child_a.ensures _ _ _ c.evaluate-counted.ensures
     c.in-Refused.is _ refl _ _
 
 pub looped-shape_of-out-in-Is : goal.looped-shape_of-out-in-Is
@@ -106,8 +106,8 @@ looped-shape_of-out-in-Is t c = c.repeat.auto.out ∙ c.put.auto.out ∙ c.evalu
 
 pub looped-returns-in-Is : goal.looped-returns-in-Is
 looped-returns-in-Is t c =
-    let count_value : GotCount c.requires.1 c.snapshot-behind.ensures.behind c.in-Is.z c.in-Is.end c.snapshot-behind.new.out c.evaluate-counted.new.out = got_count c.requires.1 c.snapshot-behind.ensures.behind c.child_a.ensures _ _ _ c.evaluate-counted.ensures c.in-Is.is in
-    loop_answer c.requires.1 c.snapshot-behind.ensures.behind count_value c.child_b.ensures (omega arith) _ _ c.snapshot-behind.ensures.laid
+    let count_value : GotCount c.requires c.snapshot-behind.ensures.behind c.in-Is.z c.in-Is.end c.snapshot-behind.new.out c.evaluate-counted.new.out = got_count c.requires c.snapshot-behind.ensures.behind c.child_a.ensures _ _ _ c.evaluate-counted.ensures c.in-Is.is in
+    loop_answer c.requires c.snapshot-behind.ensures.behind count_value c.child_b.ensures (omega arith) _ _ c.snapshot-behind.ensures.laid
     c.put.ensures c.times.ensures _ _ c.repeat.ensures
 
 -- ======== 
@@ -115,20 +115,20 @@ looped-returns-in-Is t c =
 -- Assumes nothing.
 
 pub parts-overflow_mul-node : goal.parts-overflow_mul-node
-parts-overflow_mul-node t c = omega (arith, node_bytes c.requires.1.known)
+parts-overflow_mul-node t c = omega (arith, node_bytes c.requires.known)
 
 pub parts-overflow_add-base : goal.parts-overflow_add-base
-parts-overflow_add-base t c = omega (arith, node_bytes c.requires.1.known)
+parts-overflow_add-base t c = omega (arith, node_bytes c.requires.known)
 
 pub parts-kind-k-requires : goal.parts-kind-k-requires
-parts-kind-k-requires t c = node_bytes c.requires.1.known
+parts-kind-k-requires t c = node_bytes c.requires.known
 
 pub parts-returns-then-k-eq16 : goal.parts-returns-then-k-eq16
 parts-returns-then-k-eq16 t c =
-    skip_answer c.requires.1 (kind_read c.requires.1.known c.kind-k.ensures c.if-k-eq16.true) _ refl refl refl refl _
+    skip_answer c.requires (kind_read c.requires.known c.kind-k.ensures c.if-k-eq16.true) _ refl refl refl refl _
 
 pub parts-assign-requires : goal.parts-assign-requires
-parts-assign-requires t c = record { inner = c.requires.1; kinded = kind_read c.requires.1.known c.kind-k.ensures c.if-k-eq17.true }
+parts-assign-requires t c = record { inner = c.requires; kinded = kind_read c.requires.known c.kind-k.ensures c.if-k-eq17.true }
 
 pub parts-shape_of-out-then-k-eq17 : goal.parts-shape_of-out-then-k-eq17
 parts-shape_of-out-then-k-eq17 t c = c.assign.auto.out
@@ -138,7 +138,7 @@ parts-returns-then-k-eq17 t c = c.assign.ensures
 
 pub parts-sequence-requires : goal.parts-sequence-requires
 parts-sequence-requires t c =
-    (omega (arith, c.requires.0), record { inner = c.requires.1; kinded = kind_read c.requires.1.known c.kind-k.ensures c.if-k-eq18.true })
+    (omega (arith, c.decreases), record { inner = c.requires; kinded = kind_read c.requires.known c.kind-k.ensures c.if-k-eq18.true })
 
 pub parts-shape_of-out-then-k-eq18 : goal.parts-shape_of-out-then-k-eq18
 parts-shape_of-out-then-k-eq18 t c = c.sequence.auto.out
@@ -148,7 +148,7 @@ parts-returns-then-k-eq18 t c = c.sequence.ensures
 
 pub parts-branch-t-requires : goal.parts-branch-t-requires
 parts-branch-t-requires t c =
-    (omega (arith, c.requires.0), record { inner = c.requires.1; kinded = kind_read c.requires.1.known c.kind-k.ensures c.if-k-eq19.true })
+    (omega (arith, c.decreases), record { inner = c.requires; kinded = kind_read c.requires.known c.kind-k.ensures c.if-k-eq19.true })
 
 pub parts-shape_of-out-then-k-eq19 : goal.parts-shape_of-out-then-k-eq19
 parts-shape_of-out-then-k-eq19 t c = c.branch-t.auto.out
@@ -159,8 +159,8 @@ parts-returns-then-k-eq19 t c = c.branch-t.ensures
 pub parts-looped-requires : goal.parts-looped-requires
 parts-looped-requires t c =
     (
-      omega (arith, c.requires.0),
-      record { inner = c.requires.1; kinded = last_kind c.requires.1.known c.kind-k.ensures c.if-k-eq16.false c.if-k-eq17.false c.if-k-eq18.false c.if-k-eq19.false },
+      omega (arith, c.decreases),
+      record { inner = c.requires; kinded = last_kind c.requires.known c.kind-k.ensures c.if-k-eq16.false c.if-k-eq17.false c.if-k-eq18.false c.if-k-eq19.false },
     )
 
 pub parts-shape_of-out : goal.parts-shape_of-out
@@ -178,22 +178,22 @@ repeat-loop-i-init t c = (omega arith, λ h. iterated_none h _ _ _ refl refl ref
 
 pub repeat-statement-so_far-requires : goal.repeat-statement-so_far-requires
 repeat-statement-so_far-requires t c =
-    let so_far : Iterated c.requires.1 c.args.count c.args.out.now c.loop-i.i c.loop-i.so_far c.loop-i.out = c.loop-i.invariant.1 c.requires.1 in
-    (omega (arith, c.requires.0), again_runnable _ so_far)
+    let so_far : Iterated c.requires c.args.count c.args.out.now c.loop-i.i c.loop-i.so_far c.loop-i.out = c.loop-i.invariant.1 c.requires in
+    (omega (arith, c.decreases), again_runnable _ so_far)
 
 pub repeat-shape_of-out-in_default : goal.repeat-shape_of-out-in_default
 repeat-shape_of-out-in_default t c =
-    let so_far : Iterated c.requires.1 c.args.count c.args.out.now c.loop-i.i c.loop-i.so_far c.loop-i.out = c.loop-i.invariant.1 c.requires.1 in
+    let so_far : Iterated c.requires c.args.count c.args.out.now c.loop-i.i c.loop-i.so_far c.loop-i.out = c.loop-i.invariant.1 c.requires in
     c.statement-so_far.auto.out ∙ iterated_long _ so_far
 
 pub repeat-returns-in_default : goal.repeat-returns-in_default
 repeat-returns-in_default t c =
-    let so_far : Iterated c.requires.1 c.args.count c.args.out.now c.loop-i.i c.loop-i.so_far c.loop-i.out = c.loop-i.invariant.1 c.requires.1 in
+    let so_far : Iterated c.requires c.args.count c.args.out.now c.loop-i.i c.loop-i.so_far c.loop-i.out = c.loop-i.invariant.1 c.requires in
     again_refused _ so_far c.loop-i-test.true _ _ c.statement-so_far.ensures c.in_default.is _
 
 pub repeat-snapshot-requires : goal.repeat-snapshot-requires
 repeat-snapshot-requires t c =
-    let so_far : Iterated c.requires.1 c.args.count c.args.out.now c.loop-i.i c.loop-i.so_far c.loop-i.out = c.loop-i.invariant.1 c.requires.1 in
+    let so_far : Iterated c.requires c.args.count c.args.out.now c.loop-i.i c.loop-i.so_far c.loop-i.out = c.loop-i.invariant.1 c.requires in
     again_listed _ so_far c.loop-i-test.true _ _ c.statement-so_far.ensures c.in-Accepted.is
 
 pub repeat-loop-i-preserved : goal.repeat-loop-i-preserved
@@ -207,12 +207,12 @@ repeat-loop-i-preserved t c =
 
 pub repeat-shape_of-out : goal.repeat-shape_of-out
 repeat-shape_of-out t c =
-    let so_far : Iterated c.requires.1 c.args.count c.args.out.now c.loop-i.i c.loop-i.so_far c.loop-i.out = c.loop-i.invariant.1 c.requires.1 in
+    let so_far : Iterated c.requires c.args.count c.args.out.now c.loop-i.i c.loop-i.so_far c.loop-i.out = c.loop-i.invariant.1 c.requires in
     iterated_long _ so_far
 
 pub repeat-returns : goal.repeat-returns
 repeat-returns t c =
-    let so_far : Iterated c.requires.1 c.args.count c.args.out.now c.loop-i.i c.loop-i.so_far c.loop-i.out = c.loop-i.invariant.1 c.requires.1 in
+    let so_far : Iterated c.requires c.args.count c.args.out.now c.loop-i.i c.loop-i.so_far c.loop-i.out = c.loop-i.invariant.1 c.requires in
     iterated_all _ so_far (omega arith) c.loop-i.invariant.0
 
 -- ======== 
@@ -220,30 +220,30 @@ repeat-returns t c =
 -- Assumes nothing.
 
 pub sequence-overflow_mul-place : goal.sequence-overflow_mul-place
-sequence-overflow_mul-place t c = omega (arith, node_bytes c.requires.1.inner.known)
+sequence-overflow_mul-place t c = omega (arith, node_bytes c.requires.inner.known)
 
 pub sequence-overflow_add-place : goal.sequence-overflow_add-place
-sequence-overflow_add-place t c = omega (arith, node_bytes c.requires.1.inner.known)
+sequence-overflow_add-place t c = omega (arith, node_bytes c.requires.inner.known)
 
 pub sequence-child_a-requires : goal.sequence-child_a-requires
-sequence-child_a-requires t c = node_bytes c.requires.1.inner.known
+sequence-child_a-requires t c = node_bytes c.requires.inner.known
 
 pub sequence-statement-first-requires : goal.sequence-statement-first-requires
 sequence-statement-first-requires t c =
-    (omega (arith, c.requires.0, first_below c.requires.1 c.child_a.ensures), first_runnable c.requires.1 c.child_a.ensures)
+    (omega (arith, c.decreases, first_below c.requires c.child_a.ensures), first_runnable c.requires c.child_a.ensures)
 
 pub sequence-shape_of-out-in_default : goal.sequence-shape_of-out-in_default
 sequence-shape_of-out-in_default t c = c.statement-first.auto.out
 
 pub sequence-returns-in_default : goal.sequence-returns-in_default
-sequence-returns-in_default t c = first_refused c.requires.1 c.child_a.ensures _ _ _ c.statement-first.ensures c.in_default.is _
+sequence-returns-in_default t c = first_refused c.requires c.child_a.ensures _ _ _ c.statement-first.ensures c.in_default.is _
 
 pub sequence-child_b-requires : goal.sequence-child_b-requires
-sequence-child_b-requires t c = node_bytes c.requires.1.inner.known
+sequence-child_b-requires t c = node_bytes c.requires.inner.known
 
 pub sequence-statement-requires : goal.sequence-statement-requires
 sequence-statement-requires t c =
-    let first_end : GotFirst c.requires.1 c.statement-first.result c.args.out.now c.statement-first.new.out = got_first c.requires.1 c.child_a.ensures _ _ _ c.statement-first.ensures c.in-Accepted.is in
+    let first_end : GotFirst c.requires c.statement-first.result c.args.out.now c.statement-first.new.out = got_first c.requires c.child_a.ensures _ _ _ c.statement-first.ensures c.in-Accepted.is in
     let h = c.requires in
     (omega (arith, h.0, second_below h.1 first_end c.child_b.ensures), second_runnable h.1 first_end c.child_b.ensures)
 
@@ -252,24 +252,24 @@ sequence-shape_of-out t c = c.statement.auto.out ∙ c.statement-first.auto.out
 
 pub sequence-returns : goal.sequence-returns
 sequence-returns t c =
-    let first_end : GotFirst c.requires.1 c.statement-first.result c.args.out.now c.statement-first.new.out = got_first c.requires.1 c.child_a.ensures _ _ _ c.statement-first.ensures c.in-Accepted.is in
-    sequence_answer c.requires.1 first_end c.child_b.ensures _ _ c.statement.ensures
+    let first_end : GotFirst c.requires c.statement-first.result c.args.out.now c.statement-first.new.out = got_first c.requires c.child_a.ensures _ _ _ c.statement-first.ensures c.in-Accepted.is in
+    sequence_answer c.requires first_end c.child_b.ensures _ _ c.statement.ensures
 
 -- ======== 
 -- `statement` in the cycle: a step, the parts, and then the opening words round what the parts laid down.
 -- Assumes nothing.
 
 pub statement-returns-then-left-eq0 : goal.statement-returns-then-left-eq0
-statement-returns-then-left-eq0 t c = dry c.requires.1 c.if-left-eq0.true _ refl _ _
+statement-returns-then-left-eq0 t c = dry c.requires c.if-left-eq0.true _ refl _ _
 
 pub statement-overflow_sub-left : goal.statement-overflow_sub-left
 statement-overflow_sub-left t c = omega (arith, c.if-left-eq0.false)
 
 pub statement-overflow_add-at : goal.statement-overflow_add-at
-statement-overflow_add-at t c = omega (arith, c.requires.1.near)
+statement-overflow_add-at t c = omega (arith, c.requires.near)
 
 pub statement-parts-inner-requires : goal.statement-parts-inner-requires
-statement-parts-inner-requires t c = (omega (arith, c.requires.0), inner_of c.requires.1 c.if-left-eq0.false)
+statement-parts-inner-requires t c = (omega (arith, c.decreases), inner_of c.requires c.if-left-eq0.false)
 
 pub statement-shape_of-out-in_default : goal.statement-shape_of-out-in_default
 statement-shape_of-out-in_default t c = c.parts-inner.auto.out
@@ -277,25 +277,25 @@ statement-shape_of-out-in_default t c = c.parts-inner.auto.out
 pub statement-returns-in_default : goal.statement-returns-in_default
 statement-returns-in_default t c =
     let has_step : c.args.left ≡ 0 → ⊥ = c.if-left-eq0.false in
-    entry_refused c.requires.1 has_step _ _ _ c.parts-inner.ensures c.in_default.is _
+    entry_refused c.requires has_step _ _ _ c.parts-inner.ensures c.in_default.is _
 
 pub statement-overflow_sub-end : goal.statement-overflow_sub-end
 statement-overflow_sub-end t c =
     let has_step : c.args.left ≡ 0 → ⊥ = c.if-left-eq0.false in
-    let parts_end : GotParts c.requires.1 c.parts-inner.result c.args.out.now c.parts-inner.new.out = got_parts c.requires.1 _ _ _ c.parts-inner.ensures c.in-Accepted.is in
-    omega (arith, parts_place c.requires.1 has_step parts_end)
+    let parts_end : GotParts c.requires c.parts-inner.result c.args.out.now c.parts-inner.new.out = got_parts c.requires _ _ _ c.parts-inner.ensures c.in-Accepted.is in
+    omega (arith, parts_place c.requires has_step parts_end)
 
 pub statement-overflow_sub-left-2 : goal.statement-overflow_sub-left-2
 statement-overflow_sub-left-2 t c =
     let has_step : c.args.left ≡ 0 → ⊥ = c.if-left-eq0.false in
-    let parts_end : GotParts c.requires.1 c.parts-inner.result c.args.out.now c.parts-inner.new.out = got_parts c.requires.1 _ _ _ c.parts-inner.ensures c.in-Accepted.is in
-    omega (arith, parts_left c.requires.1 has_step parts_end)
+    let parts_end : GotParts c.requires c.parts-inner.result c.args.out.now c.parts-inner.new.out = got_parts c.requires _ _ _ c.parts-inner.ensures c.in-Accepted.is in
+    omega (arith, parts_left c.requires has_step parts_end)
 
 pub statement-open-requires : goal.statement-open-requires
 statement-open-requires t c =
     let has_step : c.args.left ≡ 0 → ⊥ = c.if-left-eq0.false in
-    let parts_end : GotParts c.requires.1 c.parts-inner.result c.args.out.now c.parts-inner.new.out = got_parts c.requires.1 _ _ _ c.parts-inner.ensures c.in-Accepted.is in
-    entry_openable c.requires.1 has_step parts_end
+    let parts_end : GotParts c.requires c.parts-inner.result c.args.out.now c.parts-inner.new.out = got_parts c.requires _ _ _ c.parts-inner.ensures c.in-Accepted.is in
+    entry_openable c.requires has_step parts_end
 
 pub statement-shape_of-out : goal.statement-shape_of-out
 statement-shape_of-out t c = c.«open».auto.0 ∙ c.parts-inner.auto.out
@@ -303,42 +303,42 @@ statement-shape_of-out t c = c.«open».auto.0 ∙ c.parts-inner.auto.out
 pub statement-returns : goal.statement-returns
 statement-returns t c =
     let has_step : c.args.left ≡ 0 → ⊥ = c.if-left-eq0.false in
-    let parts_end : GotParts c.requires.1 c.parts-inner.result c.args.out.now c.parts-inner.new.out = got_parts c.requires.1 _ _ _ c.parts-inner.ensures c.in-Accepted.is in
-    entry_answer c.requires.1 has_step parts_end _ c.«open».ensures
+    let parts_end : GotParts c.requires c.parts-inner.result c.args.out.now c.parts-inner.new.out = got_parts c.requires _ _ _ c.parts-inner.ensures c.in-Accepted.is in
+    entry_answer c.requires has_step parts_end _ c.«open».ensures
 
 -- ======== 
 -- `take` in the cycle: the branch that the condition takes, and the snapshot after it.
 -- Assumes nothing.
 
 pub take-overflow_mul-place : goal.take-overflow_mul-place
-take-overflow_mul-place t c = omega (arith, node_bytes c.requires.1.known)
+take-overflow_mul-place t c = omega (arith, node_bytes c.requires.known)
 
 pub take-overflow_add-place : goal.take-overflow_add-place
-take-overflow_add-place t c = omega (arith, node_bytes c.requires.1.known)
+take-overflow_add-place t c = omega (arith, node_bytes c.requires.known)
 
 pub take-taken-requires : goal.take-taken-requires
-take-taken-requires t c = node_bytes c.requires.1.known
+take-taken-requires t c = node_bytes c.requires.known
 
 pub take-statement-ran-requires : goal.take-statement-ran-requires
 take-statement-ran-requires t c =
     (
-      omega (arith, c.requires.0, take_below c.requires.1 c.args.z c.ranges.z c.taken.ensures),
-      take_runnable c.requires.1 c.args.z c.ranges.z c.taken.ensures,
+      omega (arith, c.decreases, take_below c.requires c.args.z c.ranges.z c.taken.ensures),
+      take_runnable c.requires c.args.z c.ranges.z c.taken.ensures,
     )
 
 pub take-shape_of-out-in_default : goal.take-shape_of-out-in_default
 take-shape_of-out-in_default t c = c.statement-ran.auto.out
 
 pub take-returns-in_default : goal.take-returns-in_default
-take-returns-in_default t c = take_refused c.requires.1 c.args.z c.ranges.z c.taken.ensures _ _ _ c.statement-ran.ensures _ c.in_default.is
+take-returns-in_default t c = take_refused c.requires c.args.z c.ranges.z c.taken.ensures _ _ _ c.statement-ran.ensures _ c.in_default.is
 
 pub take-snapshot-requires : goal.take-snapshot-requires
-take-snapshot-requires t c = take_listed c.requires.1 c.args.z
+take-snapshot-requires t c = take_listed c.requires c.args.z
 
 pub take-shape_of-out : goal.take-shape_of-out
 take-shape_of-out t c = c.snapshot.auto.out ∙ c.statement-ran.auto.out
 
 pub take-returns : goal.take-returns
 take-returns t c =
-    take_answer c.requires.1 c.args.z c.ranges.z c.taken.ensures _ _ _ c.statement-ran.ensures _ c.in-Accepted.is
+    take_answer c.requires c.args.z c.ranges.z c.taken.ensures _ _ _ c.statement-ran.ensures _ c.in-Accepted.is
     c.snapshot.ensures.laid

@@ -6,8 +6,8 @@ use mathlib.Core.List.{List}
 use Prim.Native.Nat.{ℕ, suc, ◌-◌, ◌<◌}
 use native.Mathlib.Omega.{arith}
 use lib.ListN.{take, drop}
-use Rattle.rules.specs.Laws.Rising.{flagged, flagged_by}
-use Rattle.rules.specs.Laws.Variables.{fields}
+use Rattle.rules.proofs.Laws.Rising.{flagged, flagged_by}
+use Rattle.rules.proofs.Laws.Variables.{fields}
 use Rattle.table.specs.Lists.{list_at, Row}
 use Rattle.table.specs.Listing.{field_at, no_child, next_child}
 use Rattle.table.proofs.mentioned.flag_children.Goals as goal

@@ -3,8 +3,8 @@
 use mathlib.Core.Path.{◌≡◌}
 use Prim.Native.Nat.{◌-◌, ◌≤◌}
 use lib.ListN.{take, drop}
-use Rattle.rules.specs.Laws.Rising.{flagged_by}
-use Rattle.rules.specs.Laws.Variables.{fields}
+use Rattle.rules.proofs.Laws.Rising.{flagged_by}
+use Rattle.rules.proofs.Laws.Variables.{fields}
 use Rattle.table.specs.Lists.{list_at}
 use Rattle.table.proofs.mentioned.flag_children.Given as goal
 

@@ -8,7 +8,7 @@ use native.Mathlib.Omega.{arith}
 use native.Mathlib.Numerals.{add-one}
 use lib.ListN.{length, get_or, take, drop, set, length-drop}
 use lib.Seq.{get_or-drop, take-suc}
-use Rattle.rules.specs.Laws.Rising.{flagged, flagged_more}
+use Rattle.rules.proofs.Laws.Rising.{flagged, flagged_more}
 use Rattle.table.specs.Lists.{list_at}
 use Rattle.table.proofs.mentioned.flag_list.Goals as goal
 

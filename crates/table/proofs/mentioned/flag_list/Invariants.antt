@@ -3,7 +3,7 @@
 use mathlib.Core.Path.{◌≡◌}
 use Prim.Native.Nat.{◌+◌, ◌*◌, ◌-◌, ◌≤◌}
 use lib.ListN.{take, drop}
-use Rattle.rules.specs.Laws.Rising.{flagged}
+use Rattle.rules.proofs.Laws.Rising.{flagged}
 use Rattle.table.proofs.mentioned.flag_list.Given as goal
 
 abbrev pub invariant-loop-i : goal.invariant-loop-i

@@ -8,8 +8,8 @@ use mathlib.Core.Bool.{Bool, true, false}
 use mathlib.Core.List.{List}
 use lib.ListN.{get_or, take, set, replicate}
 use Rattle.rules.specs.Table.{byte}
-use Rattle.rules.specs.Laws.Rising.{rising, flagged_by}
-use Rattle.rules.specs.Laws.Variables.{names, places, place_of, fields}
+use Rattle.rules.proofs.Laws.Rising.{rising, flagged_by}
+use Rattle.rules.proofs.Laws.Variables.{names, places, place_of, fields}
 use Rattle.table.specs.Lists.{list_at}
 use Rattle.table.specs.Listing.{Children, next_mentions, next_inside, next_placed, next_own, next_children, flags_plain, flags_own}
 use Rattle.table.proofs.mentioned.flags_of.Goals as goal
@@ -50,7 +50,7 @@ overflow_add-at c =
     let lists : List ℕ = c.args.lists.now in
     let n : ℕ = c.args.n in
     let place_is : c.place_of-at.result ≡ place_of t n = c.place_of-at.ensures in
-    omega (arith, next_inside t lists n c.requires, place_is, c.good.0.0)
+    omega (arith, next_inside t lists n c.requires, place_is, c.type_inv)
 
 pub bounds-t-at-then-names_one : goal.bounds-t-at-then-names_one
 bounds-t-at-then-names_one c =

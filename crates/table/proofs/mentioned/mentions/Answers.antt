@@ -6,8 +6,8 @@ use native.Mathlib.Omega.{arith}
 use borrow.Author.Rules.{rules}
 use lib.ListN.{length, take}
 use Rattle.rules.specs.Table.{variables, nodes}
-use Rattle.rules.specs.Laws.Header.{Sized, sized}
-use Rattle.rules.specs.Laws.Rising.{rising}
+use Rattle.rules.proofs.Laws.Header.{Sized, sized}
+use Rattle.rules.proofs.Laws.Rising.{rising}
 use Rattle.table.specs.Rows.{laid}
 use Rattle.table.specs.Listing.{Made, made_next, lists_all}
 use Rattle.table.proofs.mentioned.mentions.Goals as goal

@@ -1,7 +1,7 @@
 -- `table::mentioned::names_one` meets its contract: the two tests are those of `names`.
 -- Assumes nothing.
 use borrow.Author.Tests.{eq-eqb, ne_eqb}
-use Rattle.rules.specs.Laws.Variables.{names}
+use Rattle.rules.proofs.Laws.Variables.{names}
 use Rattle.table.proofs.mentioned.names_one.Goals as goal
 
 pub returns-then-kind-eq3 : goal.returns-then-kind-eq3

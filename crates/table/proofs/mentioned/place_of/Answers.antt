@@ -3,7 +3,7 @@
 use Prim.Native.Nat.{ℕ, ◌+◌, ◌*◌}
 use mathlib.Core.Path.{ap}
 use Rattle.rules.specs.Table.{variables}
-use Rattle.rules.specs.Laws.Variables.{place_of}
+use Rattle.rules.proofs.Laws.Variables.{place_of}
 use Rattle.table.proofs.mentioned.place_of.Goals as goal
 
 pub returns : goal.returns

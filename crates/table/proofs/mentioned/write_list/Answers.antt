@@ -24,8 +24,8 @@ loop-v-preserved c =
     let l = c.loop-v in
     let h = c.loop-v-test.true in
     ⊎_elim
-    (λ w. rw (w.1, w.2) (laying_set a.lists.now a.n a.t3 a.bound enough l.lists l.count l.v l.invariant h w.0.taken))
-    (λ w. rw (w.1, w.2) (laying_pass a.lists.now a.n a.t3 a.bound enough l.lists l.count l.v l.invariant h w.0.left))
+    (λ w. rw (w.1, w.2) (laying_set a.lists.now a.n a.flags a.bound enough l.lists l.count l.v l.invariant h w.0.taken))
+    (λ w. rw (w.1, w.2) (laying_pass a.lists.now a.n a.flags a.bound enough l.lists l.count l.v l.invariant h w.0.left))
     c.if-flags-v.branch
 
 pub returns : goal.returns
@@ -34,4 +34,4 @@ returns c =
     let enough : c.args.bound ≤ length c.args.flags = omega (arith, all) in
     let a = c.args in
     let l = c.loop-v in
-    laying_done a.lists.now a.n a.t3 a.bound enough l.lists l.count l.v l.invariant c.loop-v-test.false
+    laying_done a.lists.now a.n a.flags a.bound enough l.lists l.count l.v l.invariant c.loop-v-test.false

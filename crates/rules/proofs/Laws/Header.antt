@@ -6,8 +6,8 @@ use Rattle.std.proofs.lemmas.List.{length-map}
 use Rattle.rules.specs.Outcome.{Refusal, accepted, need, header_wrong}
 use Rattle.rules.specs.Value.{most_variables}
 use Rattle.rules.specs.Table.{u16, header_length, most_nodes, marked, variables, nodes, nodes_at, total, check_header, type_bytes, ty_of, types_of, Program, check}
-use Rattle.rules.specs.Laws.Outcome.{Holds, value, vacant, holds_need, holds_of}
-use Rattle.rules.specs.Laws.Parts.{through}
+use Rattle.rules.proofs.Laws.Outcome.{Holds, value, vacant, holds_need, holds_of}
+use Rattle.rules.proofs.Laws.Parts.{through}
 
 pub record Sized (bytes : List ℕ) : Type 0 where
   pub few : variables bytes ≤ 32

@@ -14,9 +14,9 @@ use borrow.Author.Tests.{leb-true, ltb-true, eqb-true}
 use Rattle.rules.specs.Outcome.{Refusal, Outcome, accepted, refused, ◌>>=◌, need, header_wrong, node_wrong, too_deep}
 use Rattle.rules.specs.Value.{Ty, most_variables, type_of}
 use Rattle.rules.specs.Tree.{Operator, Expression, Statement, gives, depth, reads, mentions}
-use Rattle.rules.specs.Laws.Table.{is_type_lem, PartTyped, AllTyped, FoundTyped, found_typed, all_typed}
+use Rattle.rules.proofs.Laws.Table.{is_type_lem, PartTyped, AllTyped, FoundTyped, found_typed, all_typed}
 use Rattle.rules.specs.Table.{u16, header_length, most_nodes, marked, variables, nodes, nodes_at, total, types_of, Node, read_node, constant_of, nodes_from, is_type, check_header, check_types, type_bytes, children, check_uses, most_depth, nodes_of, Kind, number_constant, truth_constant, variable, operator, skip, assign, sequence, if, repeat, kinds, kind_of, Part, expression, statement, as_expression, as_statement, unused, make, make_kind, make_all, root_of, Program, check}
-use Rattle.rules.specs.Laws.Outcome.{Holds, value, vacant, holds_bind, holds_need, holds_of, holds_if, holds_any, holds_map}
+use Rattle.rules.proofs.Laws.Outcome.{Holds, value, vacant, holds_bind, holds_need, holds_of, holds_if, holds_any, holds_map}
 
 -- ---- what stands at a node
 

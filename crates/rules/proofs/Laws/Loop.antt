@@ -13,13 +13,13 @@ use Rattle.rules.specs.Outcome.{Refusal, Outcome, accepted, refused, ◌>>=◌, 
 use Rattle.rules.specs.Value.{Ty, most_variables, zeros, at, snapshot, put, minus_all}
 use Rattle.rules.specs.Run.{Done, iterate}
 use Rattle.rules.specs.Patch.{Counts, steps_of, no_steps, both, all_fresh, Walked, Visited, Turn, finished, read_snapshot, moved_all, last_snapshot, complete, grown, shrunk, loop}
-use Rattle.rules.specs.Laws.Outcome.{Holds, value, holds_bind, holds_any, holds_both, holds_map, holds_of, Alike, values, alike_bind, alike_with, alike_then}
-use Rattle.rules.specs.Laws.Store.{Good, Agree, difference, length_snapshot, read_back, move_on}
-use Rattle.rules.specs.Laws.Mentions.{◌∈◌, ◌⊆◌}
-use Rattle.rules.specs.Laws.Typed.{Kept, Keeps, kept_self, keeps_iterate}
-use Rattle.rules.specs.Laws.Run.{Same, Goes, goes_iterate}
-use Rattle.rules.specs.Laws.Entry.{Fine, Step, Part, sum_of_both}
-use Rattle.rules.specs.Laws.Branch.{restored, fresh_changes}
+use Rattle.rules.proofs.Laws.Outcome.{Holds, value, holds_bind, holds_any, holds_both, holds_map, holds_of, Alike, values, alike_bind, alike_with, alike_then}
+use Rattle.rules.proofs.Laws.Store.{Good, Agree, difference, length_snapshot, read_back, move_on}
+use Rattle.rules.proofs.Laws.Mentions.{◌∈◌, ◌⊆◌}
+use Rattle.rules.proofs.Laws.Typed.{Kept, Keeps, kept_self, keeps_iterate}
+use Rattle.rules.proofs.Laws.Run.{Same, Goes, goes_iterate}
+use Rattle.rules.proofs.Laws.Entry.{Fine, Step, Part, sum_of_both}
+use Rattle.rules.proofs.Laws.Branch.{restored, fresh_changes}
 
 -- ---- the last snapshot
 

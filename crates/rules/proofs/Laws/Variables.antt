@@ -11,8 +11,8 @@ use Rattle.std.proofs.Math.ListN.{get_elem?}
 use Rattle.rules.specs.Outcome.{accepted}
 use Rattle.rules.specs.Tree.{Operator, insert, union, reads, mentions}
 use Rattle.rules.specs.Table.{byte, u16, header_length, variables, nodes, nodes_at, types_of, read_node, Node, Kind, number_constant, truth_constant, variable, operator, skip, assign, sequence, if, repeat, Part, children_by, Program, check}
-use Rattle.rules.specs.Laws.Parts.{number_of_kind, parts_of, part_at, node_at, vars_of, Built, stands, child_at, parts_long}
-use Rattle.rules.specs.Laws.Rising.{together, Below, below_none, below_more, Rises, rises_none, rises_insert, rises_union, rises_alone}
+use Rattle.rules.proofs.Laws.Parts.{number_of_kind, parts_of, part_at, node_at, vars_of, Built, stands, child_at, parts_long}
+use Rattle.rules.proofs.Laws.Rising.{together, Below, below_none, below_more, Rises, rises_none, rises_insert, rises_union, rises_alone}
 
 -- the variables that a node mentions
 abbrev pub vars_in : Option Part → List ℕ

@@ -10,10 +10,10 @@ use Rattle.rules.specs.Value.{Ty, in_type, minus, plus, at, type_of}
 use Rattle.rules.specs.Tree.{Operator, Expression, constant, variable, operation, gives, apply}
 use Rattle.rules.specs.Run.{Valued, compute, evaluate}
 use Rattle.rules.specs.Patch.{Shifted, read, read_in, moved, shift}
-use Rattle.rules.specs.Laws.Outcome.{Holds, value, holds_bind, holds_both, Alike, values, alike_bind, alike_after, alike_with}
-use Rattle.rules.specs.Laws.Value.{plus_minus, minus_self}
-use Rattle.rules.specs.Laws.Store.{Good, difference, at_difference}
-use Rattle.rules.specs.Laws.Typed.{TypedAs, value_typed, computed}
+use Rattle.rules.proofs.Laws.Outcome.{Holds, value, holds_bind, holds_both, Alike, values, alike_bind, alike_after, alike_with}
+use Rattle.rules.proofs.Laws.Value.{plus_minus, minus_self}
+use Rattle.rules.proofs.Laws.Store.{Good, difference, at_difference}
+use Rattle.rules.proofs.Laws.Typed.{TypedAs, value_typed, computed}
 
 -- the shift of an expression whose old value is x: the change to the new one, its new record, and the words behind
 abbrev pub Shift : Ty → Valued → List ℤ → Valued → Shifted → Type 0

@@ -7,9 +7,9 @@ use Rattle.rules.specs.Outcome.{Outcome, accepted, ◌>>=◌, choose, out_of_ran
 use Rattle.rules.specs.Value.{snapshot}
 use Rattle.rules.specs.Tree.{Expression, constant, variable, operation, Statement, skip, assign, sequence, if, repeat, mentions}
 use Rattle.rules.specs.Run.{Done, compute, evaluate, entry, enter, holds, times, iterate, if_words, repeat_words, run}
-use Rattle.rules.specs.Laws.Outcome.{Holds, value, vacant, holds_here, holds_bind}
-use Rattle.rules.specs.Laws.Store.{length_snapshot}
-use Rattle.rules.specs.Laws.Typed.{computed}
+use Rattle.rules.proofs.Laws.Outcome.{Holds, value, vacant, holds_here, holds_bind}
+use Rattle.rules.proofs.Laws.Store.{length_snapshot}
+use Rattle.rules.proofs.Laws.Typed.{computed}
 
 unfoldable pub operations : Expression → ℕ
 operations (constant n z) = 0

@@ -12,15 +12,15 @@ use Rattle.numbers.specs.Signed.{eq_z, between}
 use Rattle.numbers.specs.Laws.{and_both, eq_z_refl, decide}
 use Rattle.rules.specs.Outcome.{Refusal, Outcome, accepted, refused, ◌>>=◌, need, choose, fuel_spent, broken}
 use Rattle.rules.specs.Value.{Ty, most_variables, minus, type_of, at, unchanged}
-use Rattle.rules.specs.Laws.Value.{minus_self}
+use Rattle.rules.proofs.Laws.Value.{minus_self}
 use Rattle.rules.specs.Tree.{Statement, skip, assign, sequence, if, repeat, node_of, mentions}
 use Rattle.rules.specs.Run.{Done, entry, enter, most_steps, run}
 use Rattle.rules.specs.Patch.{Cut, cut, Counts, steps_of, both, one_walked, all_reused, Entry, ends, meet, Walked, Visited, Walk, skipped, paid, visit, walk}
-use Rattle.rules.specs.Laws.Outcome.{Holds, value, vacant, holds_bind, holds_of, holds_map, holds_both, holds_if, refused_accepted, Alike, values, refusals, alike_bind}
-use Rattle.rules.specs.Laws.Store.{Good, Agree, difference, at_difference, length_difference, unchanged_agree}
-use Rattle.rules.specs.Laws.Mentions.{◌∈◌, is_member}
-use Rattle.rules.specs.Laws.Typed.{Typed, Kept, run_keeps}
-use Rattle.rules.specs.Laws.Run.{Same, run_alike, Costs, run_costs, split}
+use Rattle.rules.proofs.Laws.Outcome.{Holds, value, vacant, holds_bind, holds_of, holds_map, holds_both, holds_if, refused_accepted, Alike, values, refusals, alike_bind}
+use Rattle.rules.proofs.Laws.Store.{Good, Agree, difference, at_difference, length_difference, unchanged_agree}
+use Rattle.rules.proofs.Laws.Mentions.{◌∈◌, is_member}
+use Rattle.rules.proofs.Laws.Typed.{Typed, Kept, run_keeps}
+use Rattle.rules.proofs.Laws.Run.{Same, run_alike, Costs, run_costs, split}
 
 -- ---- meeting an entry
 

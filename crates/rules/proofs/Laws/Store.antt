@@ -10,8 +10,8 @@ use Rattle.numbers.specs.Laws.{and_left, and_right, eq_z_true}
 use Rattle.rules.specs.Outcome.{Outcome, accepted, refused, ◌>>=◌, need}
 use Rattle.rules.specs.Value.{Ty, in_type, plus, minus, at, type_of, snapshot, put, minus_all, unchanged}
 use Rattle.rules.specs.Patch.{read, read_in, moved, read_snapshot, moved_all}
-use Rattle.rules.specs.Laws.Value.{plus_minus, minus_self, unmoved}
-use Rattle.rules.specs.Laws.Mentions.{◌∈◌, ◌⊆◌, is_member}
+use Rattle.rules.proofs.Laws.Value.{plus_minus, minus_self, unmoved}
+use Rattle.rules.proofs.Laws.Mentions.{◌∈◌, ◌⊆◌, is_member}
 
 -- every variable's value is in its type
 abbrev pub Good : List Ty → List ℤ → Type 0

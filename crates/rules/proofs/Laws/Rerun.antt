@@ -15,13 +15,13 @@ use Rattle.rules.specs.Table.{Program, check}
 use Rattle.rules.specs.Run.{Done, most_steps, run, record_of}
 use Rattle.rules.specs.Patch.{Counts, steps_of, all_fresh, ends, Visited, visit, walk}
 use Rattle.rules.specs.Call.{Finished, finish_run, Header, header, legal, finish_patch}
-use Rattle.rules.specs.Laws.Outcome.{Holds, value, vacant, holds_bind, holds_need, holds_of, holds_if, holds_const, Alike, values, refusals, alike_bind, alike_with}
-use Rattle.rules.specs.Laws.Store.{Good, difference, length_difference}
-use Rattle.rules.specs.Laws.Typed.{Kept, run_keeps}
-use Rattle.rules.specs.Laws.Entry.{Fine, Step, Visits, steps_within, steps_some}
-use Rattle.rules.specs.Laws.Walk.{entry_follows}
-use Rattle.rules.specs.Laws.Table.{Sound, check_sound}
-use Rattle.rules.specs.Laws.Call.{plus_padded, take_padded, padded_fine, good_fit, legal_fit, legal_difference, outputs_moved, header_back, in_limits_lem, Names, header_names}
+use Rattle.rules.proofs.Laws.Outcome.{Holds, value, vacant, holds_bind, holds_need, holds_of, holds_if, holds_const, Alike, values, refusals, alike_bind, alike_with}
+use Rattle.rules.proofs.Laws.Store.{Good, difference, length_difference}
+use Rattle.rules.proofs.Laws.Typed.{Kept, run_keeps}
+use Rattle.rules.proofs.Laws.Entry.{Fine, Step, Visits, steps_within, steps_some}
+use Rattle.rules.proofs.Laws.Walk.{entry_follows}
+use Rattle.rules.proofs.Laws.Table.{Sound, check_sound}
+use Rattle.rules.proofs.Laws.Call.{plus_padded, take_padded, padded_fine, good_fit, legal_fit, legal_difference, outputs_moved, header_back, in_limits_lem, Names, header_names}
 
 -- these are the words that an accepted run of the table left
 pub record Made (bytes : List ℕ) (words : List ℤ) : Type 0 where

@@ -14,8 +14,8 @@ use Rattle.rules.specs.Outcome.{Refusal, Outcome, accepted, refused, ◌>>=◌, 
 use Rattle.rules.specs.Value.{Ty, most_variables, lowest, highest, in_type, type_of}
 use Rattle.rules.specs.Tree.{Operator, Expression, Statement, gives, depth}
 use Rattle.rules.specs.Table.{signed, header_length, marked, variables, check_header, check_types, nodes_of, children, check_uses, most_depth, type_bytes, ty_of, types_of, Node, constant_of, Kind, kind_of, number_constant, truth_constant, variable, operator, skip, assign, sequence, if, repeat, Part, expression, statement, is_type, as_expression, as_statement, unused, make, make_kind, make_all, root_of, Program, check}
-use Rattle.rules.specs.Laws.Outcome.{Holds, value, vacant, holds_bind, holds_need, holds_any, holds_const}
-use Rattle.rules.specs.Laws.Typed.{TypedAs, Typed}
+use Rattle.rules.proofs.Laws.Outcome.{Holds, value, vacant, holds_bind, holds_need, holds_any, holds_const}
+use Rattle.rules.proofs.Laws.Typed.{TypedAs, Typed}
 
 -- ---- a number constant is in range
 

@@ -8,9 +8,9 @@ use Rattle.rules.specs.Outcome.{Refusal, Outcome, accepted, refused, ◌>>=◌, 
 use Rattle.rules.specs.Value.{Ty, in_type, at, type_of}
 use Rattle.rules.specs.Tree.{Operator, Expression, constant, variable, operation, Statement, skip, assign, sequence, if, repeat, gives, apply, mentions}
 use Rattle.rules.specs.Run.{Valued, Done, compute, evaluate, enter, holds, times, iterate, run}
-use Rattle.rules.specs.Laws.Outcome.{Holds, value, vacant, holds_bind, holds_need}
-use Rattle.rules.specs.Laws.Store.{Good}
-use Rattle.rules.specs.Laws.Mentions.{◌∈◌, ◌⊆◌, sequence_first, sequence_second, if_then, if_else, repeat_body, assign_variable}
+use Rattle.rules.proofs.Laws.Outcome.{Holds, value, vacant, holds_bind, holds_need}
+use Rattle.rules.proofs.Laws.Store.{Good}
+use Rattle.rules.proofs.Laws.Mentions.{◌∈◌, ◌⊆◌, sequence_first, sequence_second, if_then, if_else, repeat_body, assign_variable}
 
 -- ---- typed trees
 

@@ -14,16 +14,16 @@ use Rattle.rules.specs.Value.{Ty, in_type, minus, type_of, at, snapshot}
 use Rattle.rules.specs.Tree.{Expression, Statement, skip, assign, sequence, if, repeat, node_of, mentions}
 use Rattle.rules.specs.Run.{Valued, Done, evaluate, enter, holds, times, iterate, if_words, repeat_words, run}
 use Rattle.rules.specs.Patch.{Read, read_in, Counts, steps_of, no_steps, both, Shifted, Walked, Visited, Fork, finished, ends, read_snapshot, moved_all, shift, kept, flipped, loop, visit, walk}
-use Rattle.rules.specs.Laws.Outcome.{Holds, value, holds_bind, holds_both, holds_map, holds_all, Alike, values, alike_bind, alike_with}
-use Rattle.rules.specs.Laws.Value.{unmoved}
-use Rattle.rules.specs.Laws.Store.{Good, difference, set_difference, read_back, move_on}
-use Rattle.rules.specs.Laws.Mentions.{◌∈◌, ◌⊆◌, sequence_first, sequence_second, if_then, if_else, repeat_body}
-use Rattle.rules.specs.Laws.Typed.{TypedAs, Typed, value_typed, Kept, run_keeps, keeps_choose, keeps_iterate}
-use Rattle.rules.specs.Laws.Run.{run_alike, goes_choose}
-use Rattle.rules.specs.Laws.Shift.{Shift, shift_follows, reads_in, moves_to}
-use Rattle.rules.specs.Laws.Entry.{Fine, Step, Part, Visits, Walks, visit_follows, enter_walks, sum_of_both}
-use Rattle.rules.specs.Laws.Branch.{forked}
-use Rattle.rules.specs.Laws.Loop.{fine_end, loop_follows}
+use Rattle.rules.proofs.Laws.Outcome.{Holds, value, holds_bind, holds_both, holds_map, holds_all, Alike, values, alike_bind, alike_with}
+use Rattle.rules.proofs.Laws.Value.{unmoved}
+use Rattle.rules.proofs.Laws.Store.{Good, difference, set_difference, read_back, move_on}
+use Rattle.rules.proofs.Laws.Mentions.{◌∈◌, ◌⊆◌, sequence_first, sequence_second, if_then, if_else, repeat_body}
+use Rattle.rules.proofs.Laws.Typed.{TypedAs, Typed, value_typed, Kept, run_keeps, keeps_choose, keeps_iterate}
+use Rattle.rules.proofs.Laws.Run.{run_alike, goes_choose}
+use Rattle.rules.proofs.Laws.Shift.{Shift, shift_follows, reads_in, moves_to}
+use Rattle.rules.proofs.Laws.Entry.{Fine, Step, Part, Visits, Walks, visit_follows, enter_walks, sum_of_both}
+use Rattle.rules.proofs.Laws.Branch.{forked}
+use Rattle.rules.proofs.Laws.Loop.{fine_end, loop_follows}
 
 module _ (types : List Ty) where
   -- what a walk through parts is to do: the parts' end d, from the old store

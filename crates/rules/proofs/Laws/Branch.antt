@@ -14,13 +14,13 @@ use Rattle.rules.specs.Outcome.{Refusal, Outcome, accepted, refused, ◌>>=◌, 
 use Rattle.rules.specs.Value.{Ty, most_variables, zeros, in_type, differ, plus, minus, type_of, at, snapshot, put, minus_all}
 use Rattle.rules.specs.Run.{Done, holds, if_words}
 use Rattle.rules.specs.Patch.{Counts, steps_of, all_fresh, Shifted, Walked, Visited, Fork, moved_all, kept, flipped}
-use Rattle.rules.specs.Laws.Outcome.{Holds, Alike, values, alike_bind, alike_with}
-use Rattle.rules.specs.Laws.Value.{truth_cases, plus_minus, unmoved}
-use Rattle.rules.specs.Laws.Store.{Good, Agree, difference, at_difference, length_difference, snapshot_agree, minus_snapshots, move_on, put_agrees, put_whole, length_put}
-use Rattle.rules.specs.Laws.Mentions.{◌∈◌}
-use Rattle.rules.specs.Laws.Typed.{Kept, Keeps, keeps_choose}
-use Rattle.rules.specs.Laws.Run.{Same, Goes, goes_choose}
-use Rattle.rules.specs.Laws.Entry.{Fine, Step, Part}
+use Rattle.rules.proofs.Laws.Outcome.{Holds, Alike, values, alike_bind, alike_with}
+use Rattle.rules.proofs.Laws.Value.{truth_cases, plus_minus, unmoved}
+use Rattle.rules.proofs.Laws.Store.{Good, Agree, difference, at_difference, length_difference, snapshot_agree, minus_snapshots, move_on, put_agrees, put_whole, length_put}
+use Rattle.rules.proofs.Laws.Mentions.{◌∈◌}
+use Rattle.rules.proofs.Laws.Typed.{Kept, Keeps, keeps_choose}
+use Rattle.rules.proofs.Laws.Run.{Same, Goes, goes_choose}
+use Rattle.rules.proofs.Laws.Entry.{Fine, Step, Part}
 
 -- ---- what a fresh part starts from, and the changes behind it
 

@@ -24,9 +24,9 @@ use Rattle.rules.specs.Table.{header_length, most_nodes, marked, variables, node
 use Rattle.rules.specs.Run.{compute, evaluate, Done, enter, holds, times, iterate, headed, opening, most_steps, run, record_of}
 use Rattle.rules.specs.Patch.{Entry, Walked, Visited, Walk, Fork, Turn, read, read_in, moved, finished, cut, shift, steps_of, ends, meet, skipped, paid, visit, read_snapshot, moved_all, kept, flipped, last_snapshot, complete, grown, shrunk, loop, walk}
 use Rattle.rules.specs.Call.{Called, Finished, within, answered, finish_run, call_run, length_of, limit_of, steps_in, inputs_of, outputs_of, header, legal, finish_patch, call_patch}
-use Rattle.rules.specs.Laws.Outcome.{Holds, value, holds_bind, holds_need, holds_any}
-use Rattle.rules.specs.Laws.Mentions.{◌∈◌}
-use Rattle.rules.specs.Laws.Run.{split}
+use Rattle.rules.proofs.Laws.Outcome.{Holds, value, holds_bind, holds_need, holds_any}
+use Rattle.rules.proofs.Laws.Mentions.{◌∈◌}
+use Rattle.rules.proofs.Laws.Run.{split}
 
 -- ---- lists of numbers, compared by computing
 

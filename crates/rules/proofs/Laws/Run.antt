@@ -13,9 +13,9 @@ use Rattle.rules.specs.Outcome.{Refusal, Outcome, accepted, refused, ◌>>=◌, 
 use Rattle.rules.specs.Value.{at, snapshot}
 use Rattle.rules.specs.Tree.{Expression, constant, variable, operation, Statement, skip, assign, sequence, if, repeat, reads, mentions}
 use Rattle.rules.specs.Run.{Valued, Done, compute, evaluate, entry, enter, holds, times, iterate, if_words, repeat_words, run}
-use Rattle.rules.specs.Laws.Outcome.{Holds, value, vacant, holds_bind, holds_of, Alike, values, refusals, alike_bind, alike_after}
-use Rattle.rules.specs.Laws.Store.{Agree, agree_part, snapshot_agree, agree_set}
-use Rattle.rules.specs.Laws.Mentions.{◌∈◌, ◌⊆◌, union_left, union_right, sequence_first, sequence_second, if_condition, if_then, if_else, repeat_count, repeat_body, assign_expression, assign_variable}
+use Rattle.rules.proofs.Laws.Outcome.{Holds, value, vacant, holds_bind, holds_of, Alike, values, refusals, alike_bind, alike_after}
+use Rattle.rules.proofs.Laws.Store.{Agree, agree_part, snapshot_agree, agree_set}
+use Rattle.rules.proofs.Laws.Mentions.{◌∈◌, ◌⊆◌, union_left, union_right, sequence_first, sequence_second, if_condition, if_then, if_else, repeat_count, repeat_body, assign_expression, assign_variable}
 
 -- ---- stores that agree on what is read
 

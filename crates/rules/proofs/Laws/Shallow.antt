@@ -11,12 +11,12 @@ use Rattle.rules.specs.Outcome.{accepted, ◌>>=◌, too_deep}
 use Rattle.rules.specs.Value.{Ty, most_variables}
 use Rattle.rules.specs.Tree.{Expression, Statement, depth_of, depth, mentions}
 use Rattle.rules.specs.Table.{nodes, Kind, number_constant, truth_constant, variable, operator, skip, assign, sequence, if, repeat, types_of, type_bytes, nodes_of, check_header, check_types, check_uses, children, most_depth, make_all, as_statement, root_of, Part, expression, statement, Program, check}
-use Rattle.rules.specs.Laws.Outcome.{Holds, value, holds_bind, holds_need, holds_of, holds_any}
-use Rattle.rules.specs.Laws.Parts.{no_expression, statement_of, part_at, parts_of, node_at, Built, Stands, stands, child_at, root_at}
-use Rattle.rules.specs.Laws.Size.{operations, few_operators, Small}
-use Rattle.rules.specs.Laws.Rising.{rises_short}
-use Rattle.rules.specs.Laws.Header.{sized, types_long}
-use Rattle.rules.specs.Laws.Variables.{rises_at}
+use Rattle.rules.proofs.Laws.Outcome.{Holds, value, holds_bind, holds_need, holds_of, holds_any}
+use Rattle.rules.proofs.Laws.Parts.{no_expression, statement_of, part_at, parts_of, node_at, Built, Stands, stands, child_at, root_at}
+use Rattle.rules.proofs.Laws.Size.{operations, few_operators, Small}
+use Rattle.rules.proofs.Laws.Rising.{rises_short}
+use Rattle.rules.proofs.Laws.Header.{sized, types_long}
+use Rattle.rules.proofs.Laws.Variables.{rises_at}
 
 -- ---- operators, by depth
 

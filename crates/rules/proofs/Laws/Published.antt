@@ -11,12 +11,12 @@ use Rattle.rules.specs.Value.{Ty, in_type, at, snapshot}
 use Rattle.rules.specs.Tree.{Operator, Expression, Statement, gives, apply, mentions}
 use Rattle.rules.specs.Run.{Valued, Done, compute, evaluate, entry, enter, holds, times, iterate, if_words, repeat_words, run}
 use Rattle.rules.specs.Published.{Evaluates, Executes}
-use Rattle.rules.specs.Laws.Outcome.{Holds, value, vacant, holds_bind, holds_both, holds_map}
-use Rattle.rules.specs.Laws.Value.{truth_cases}
-use Rattle.rules.specs.Laws.Store.{Good}
-use Rattle.rules.specs.Laws.Mentions.{◌⊆◌}
-use Rattle.rules.specs.Laws.Typed.{TypedAs, Typed, value_typed, computed, Kept, run_keeps}
-use Rattle.rules.specs.Laws.Shift.{computes}
+use Rattle.rules.proofs.Laws.Outcome.{Holds, value, vacant, holds_bind, holds_both, holds_map}
+use Rattle.rules.proofs.Laws.Value.{truth_cases}
+use Rattle.rules.proofs.Laws.Store.{Good}
+use Rattle.rules.proofs.Laws.Mentions.{◌⊆◌}
+use Rattle.rules.proofs.Laws.Typed.{TypedAs, Typed, value_typed, computed, Kept, run_keeps}
+use Rattle.rules.proofs.Laws.Shift.{computes}
 
 -- ---- expressions
 

@@ -18,10 +18,10 @@ use Rattle.rules.specs.Outcome.{Refusal, Outcome, accepted, refused, ◌>>=◌, 
 use Rattle.rules.specs.Value.{Ty, most_variables, zeros, in_type, differ, plus, minus, type_of, at, padded, fit, plus_all}
 use Rattle.rules.specs.Run.{headed, most_steps, record_of}
 use Rattle.rules.specs.Call.{length_of, limit_of, steps_in, inputs_of, outputs_of, Header, header, is_change, legal}
-use Rattle.rules.specs.Laws.Outcome.{Holds, value, holds_need}
-use Rattle.rules.specs.Laws.Value.{truth_cases, zero_in, plus_minus, minus_self}
-use Rattle.rules.specs.Laws.Store.{Good, difference, at_difference, length_difference}
-use Rattle.rules.specs.Laws.Entry.{Fine}
+use Rattle.rules.proofs.Laws.Outcome.{Holds, value, holds_need}
+use Rattle.rules.proofs.Laws.Value.{truth_cases, zero_in, plus_minus, minus_self}
+use Rattle.rules.proofs.Laws.Store.{Good, difference, at_difference, length_difference}
+use Rattle.rules.proofs.Laws.Entry.{Fine}
 
 -- ---- one word for each variable
 
