@@ -27,6 +27,6 @@ unfolding read_node constant_of signed
 returns c =
     let bytes = c.args.t.now in
     let at = c.args.at in
-    to_z-of_z w64 _ (sub-result c) ∙ lowered (c.pair.result + 65536 * c.pair-2.result + 2147483648)
+    to_z-of_z w64 _ (lowered_fits (c.pair.result + 65536 * c.pair-2.result + 2147483648)) ∙ lowered (c.pair.result + 65536 * c.pair-2.result + 2147483648)
     ∙ ap₂ {C = ℤ} (λ (a b : ℕ). sub_ℕ ((a + 65536 * b + 2147483648) % 4294967296) 2147483648)
     (c.pair.ensures.0 ∙ pair_behind bytes at 4) (c.pair-2.ensures.0 ∙ pair_behind bytes at 6)

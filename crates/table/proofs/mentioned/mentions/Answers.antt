@@ -12,23 +12,6 @@ use Rattle.table.specs.Rows.{laid}
 use Rattle.table.specs.Listing.{Made, made_next, lists_all}
 use Rattle.table.proofs.mentioned.mentions.Goals as goal
 
-abbrev Head : Type 0
-Head = tie.At-loop invariant-loop decreases-loop
-
-abbrev entry : Head → tie.Start invariant-loop decreases-loop
-entry l = l.before.before.before.before
-
-size : (l : Head) → Sized (entry l).args.t.now
-size l = sized (entry l).args.t.now (entry l).pre.0 (entry l).pre.1
-
-variables-are : (l : Head) → l.before.before.pair.result ≡ variables (entry l).args.t.now
-unfolding variables
-variables-are l = l.before.before.pair.ensures.0
-
-count_is : (l : Head) → l.before.pair2.result ≡ nodes (entry l).args.t.now
-unfolding nodes
-count_is l = l.before.pair2.ensures.0
-
 pub pair-variables-requires : goal.pair-variables-requires
 pair-variables-requires c = omega (arith, (sized c.args.t.now c.requires.0 c.requires.1).whole)
 
@@ -39,17 +22,20 @@ pub loop-n-init : goal.loop-n-init
 loop-n-init c = (omega arith, record { long = refl; upto = λ m h. absurd (omega arith) })
 
 pub flags_of-flags-requires : goal.flags_of-flags-requires
+unfolding variables nodes
 flags_of-flags-requires c =
-    record { table = (entry c).requires; inside = omega (arith, count_is c, c.loop-n-test.true); made = c.loop-n.invariant.1 }
+    record { table = c.requires; inside = omega (arith, c.pair-count.ensures.0, c.loop-n-test.true); made = c.loop-n.invariant.1 }
 
 pub write_list-requires : goal.write_list-requires
+unfolding variables nodes
 write_list-requires c =
-    let inside : c.loop-n.n < 512 = omega (arith, count_is c, (size c).small, c.loop-n-test.true) in
-    (c.loop-n.invariant.1.long, inside, omega (arith, variables-are c, (size c).few))
+    let inside : c.loop-n.n < 512 = omega (arith, c.pair-count.ensures.0, (sized c.args.t.now c.requires.0 c.requires.1).small, c.loop-n-test.true) in
+    (c.loop-n.invariant.1.long, inside, omega (arith, c.pair-variables.ensures.0, (sized c.args.t.now c.requires.0 c.requires.1).few))
 
 pub overflow_add-n : goal.overflow_add-n
+unfolding variables nodes
 overflow_add-n c =
-    let inside : c.loop-n.n < 512 = omega (arith, count_is c, (size c).small, c.loop-n-test.true) in
+    let inside : c.loop-n.n < 512 = omega (arith, c.pair-count.ensures.0, (sized c.args.t.now c.requires.0 c.requires.1).small, c.loop-n-test.true) in
     omega (arith, inside)
 
 pub loop-n-smaller : goal.loop-n-smaller
@@ -58,17 +44,19 @@ loop-n-smaller c =
     omega arith
 
 pub loop-n-preserved : goal.loop-n-preserved
+unfolding variables nodes
 loop-n-preserved c =
-    let inside : c.loop-n.n < 512 = omega (arith, count_is c, (size c).small, c.loop-n-test.true) in
+    let inside : c.loop-n.n < 512 = omega (arith, c.pair-count.ensures.0, (sized c.args.t.now c.requires.0 c.requires.1).small, c.loop-n-test.true) in
     let all : length c.flags_of-flags.result ≡ 32 = search rules in
     let written : c.write_list.new.lists
-    ≡ laid c.loop-n.lists c.loop-n.n (rising 0 (take (variables (entry c).args.t.now) c.flags_of-flags.result)) =
-    c.write_list.ensures ∙ ap (λ (k : ℕ). laid c.loop-n.lists c.loop-n.n (rising 0 (take k c.flags_of-flags.result))) (variables-are c) in (
+    ≡ laid c.loop-n.lists c.loop-n.n (rising 0 (take (variables c.args.t.now) c.flags_of-flags.result)) =
+    c.write_list.ensures ∙ ap (λ (k : ℕ). laid c.loop-n.lists c.loop-n.n (rising 0 (take k c.flags_of-flags.result))) c.pair-variables.ensures.0 in (
       omega (arith, c.loop-n-test.true),
-      rw written (made_next (entry c).args.t.now (entry c).requires c.loop-n.lists c.loop-n.n c.flags_of-flags.result inside c.loop-n.invariant.1 all c.flags_of-flags.ensures),
+      rw written (made_next c.args.t.now c.requires c.loop-n.lists c.loop-n.n c.flags_of-flags.result inside c.loop-n.invariant.1 all c.flags_of-flags.ensures),
     )
 
 pub returns : goal.returns
+unfolding variables nodes
 returns c =
-    let e : c.loop-n.n ≡ nodes (entry c).args.t.now = omega (arith, count_is c) in
-    lists_all (entry c).args.t.now (entry c).requires c.loop-n.lists (subst (Made (entry c).args.t.now c.loop-n.lists) e c.loop-n.invariant.1)
+    let e : c.loop-n.n ≡ nodes c.args.t.now = omega (arith, c.pair-count.ensures.0) in
+    lists_all c.args.t.now c.requires c.loop-n.lists (subst (Made c.args.t.now c.loop-n.lists) e c.loop-n.invariant.1)

@@ -2,13 +2,13 @@
 -- stand behind the row's first byte, and there are `count` of them.
 -- Assumes nothing.
 use mathlib.Core.Path.{◌≡◌}
-use mathlib.Core.Logic.{⊎_elim}
 use Prim.Native.Nat.{◌-◌, ◌≤◌}
 use native.Mathlib.Omega.{arith}
 use borrow.Author.Rules.{rules}
 use lib.ListN.{length}
 use Rattle.table.specs.Rows.{laying_none, laying_set, laying_pass, laying_done}
 use Rattle.table.proofs.mentioned.write_list.Goals as goal
+use Rattle.table.proofs.mentioned.write_list.Goals.{then-flags-v, else-flags-v}
 
 pub loop-v-init : goal.loop-v-init
 loop-v-init c =
@@ -23,10 +23,10 @@ loop-v-preserved c =
     let a = c.args in
     let l = c.loop-v in
     let h = c.loop-v-test.true in
-    ⊎_elim
-    (λ w. rw (w.1, w.2) (laying_set a.lists.now a.n a.flags a.bound enough l.lists l.count l.v l.invariant h w.0.taken))
-    (λ w. rw (w.1, w.2) (laying_pass a.lists.now a.n a.flags a.bound enough l.lists l.count l.v l.invariant h w.0.left))
-    c.if-flags-v.branch
+    elim c.if-flags-v.branch [
+      then-flags-v w ↦ rw (w.lists-is, w.count-is) (laying_set a.lists.now a.n a.flags a.bound enough l.lists l.count l.v l.invariant h w.if-flags-v.true)
+      | else-flags-v w ↦ rw (w.lists-is, w.count-is) (laying_pass a.lists.now a.n a.flags a.bound enough l.lists l.count l.v l.invariant h w.if-flags-v.false)
+    ]
 
 pub returns : goal.returns
 returns c =

@@ -61,4 +61,4 @@ returns-in-20 c = c.asks-in-20.ensures ∙ rw c.in-20.is
 
 pub returns-in_default : goal.returns-in_default
 unfolding form kinds
-returns-in_default c = c.asks-in_default.ensures ∙ rw (no_kind c.args.kind c.in_default.rest)
+returns-in_default c = c.asks-in_default.ensures ∙ rw (no_kind c.args.kind c.in_default.in_default-own.rest)
