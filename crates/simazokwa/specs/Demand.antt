@@ -9,7 +9,8 @@ use Rattle.rules.specs.Outcome.{accepted}
 use Rattle.rules.specs.Value.{Ty, plus_all}
 use Rattle.rules.specs.Table.{Program, check}
 use Rattle.rules.specs.Call.{Called, call_run, call_patch, limit_of, inputs_of, outputs_of, legal}
-use Rattle.promises.specs.Rerun.{Left, IsRerun, patch_is_rerun}
+use Rattle.promises.specs.Rerun.{Left, IsRerun}
+use Rattle.promises.proofs.Rerun.{patch_is_rerun}
 use Rattle.simazokwa.specs.Words.{head_words, answer_words, Told, RunTold, PatchTold}
 
 -- what a patch's call left, beside what a run's call left. Their words are those of two answers, as `answer_words` sets them out, and of

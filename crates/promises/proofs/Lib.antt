@@ -1,0 +1,2 @@
+pub mod Rerun
+pub mod Calls
