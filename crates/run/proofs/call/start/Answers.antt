@@ -36,29 +36,34 @@ padded-requires c =
     (omega (arith, c.pair-v.ensures.0 ∙ count_is h, inputs_long h), omega (arith, c.pair-v.ensures.0 ∙ count_is h, few h))
 
 pub statement-ran-requires : goal.statement-ran-requires
+unfolding variables nodes
 statement-ran-requires c =
     let begun : Begun c.requires c.pair-v.result (c.pair-root.result - 1) c.limit_of-most.result c.padded.result.values c.mentions-listed.result.lists = begins c.requires c.ranges.limit c.pair-v.ensures.0 c.pair-root.ensures.0 c.limit_of-most.ensures c.padded.ensures c.mentions-listed.ensures in
     root_runnable c.requires begun
 
 pub returns-then-out-ran : goal.returns-then-out-ran
+unfolding variables nodes
 returns-then-out-ran c =
     let begun : Begun c.requires c.pair-v.result (c.pair-root.result - 1) c.limit_of-most.result c.padded.result.values c.mentions-listed.result.lists = begins c.requires c.ranges.limit c.pair-v.ensures.0 c.pair-root.ensures.0 c.limit_of-most.ensures c.padded.ensures c.mentions-listed.ensures in
     room_refused c.requires begun _ _ _ c.statement-ran.ensures c.statement-ran.auto.out c.in-Accepted.is
     c.if-out-ran.true c.refuse-then-out-ran.result _ c.refuse-then-out-ran.ensures
 
 pub complete-requires : goal.complete-requires
+unfolding variables nodes
 complete-requires c =
     let begun : Begun c.requires c.pair-v.result (c.pair-root.result - 1) c.limit_of-most.result c.padded.result.values c.mentions-listed.result.lists = begins c.requires c.ranges.limit c.pair-v.ensures.0 c.pair-root.ensures.0 c.limit_of-most.ensures c.padded.ensures c.mentions-listed.ensures in
     root_completable c.requires begun _ _ _ c.statement-ran.ensures c.statement-ran.auto.out c.in-Accepted.is
     c.if-out-ran.false
 
 pub returns-in-Refused : goal.returns-in-Refused
+unfolding variables nodes
 returns-in-Refused c =
     let begun : Begun c.requires c.pair-v.result (c.pair-root.result - 1) c.limit_of-most.result c.padded.result.values c.mentions-listed.result.lists = begins c.requires c.ranges.limit c.pair-v.ensures.0 c.pair-root.ensures.0 c.limit_of-most.ensures c.padded.ensures c.mentions-listed.ensures in
     root_refused c.requires begun _ _ _ c.statement-ran.ensures c.statement-ran.auto.out c.in-Refused.is
     c.refuse.result _ c.refuse.ensures
 
 pub returns-else-out-ran : goal.returns-else-out-ran
+unfolding variables nodes
 returns-else-out-ran c =
     let begun : Begun c.requires c.pair-v.result (c.pair-root.result - 1) c.limit_of-most.result c.padded.result.values c.mentions-listed.result.lists = begins c.requires c.ranges.limit c.pair-v.ensures.0 c.pair-root.ensures.0 c.limit_of-most.ensures c.padded.ensures c.mentions-listed.ensures in
     root_answer c.requires begun _ _ _ c.statement-ran.ensures c.statement-ran.auto.out c.in-Accepted.is

@@ -24,14 +24,14 @@ pub returns-then-not-fits : goal.returns-then-not-fits
 returns-then-not-fits c =
     let table_passes : (p : Program) × (check c.args.t.now ≡ accepted p) = check_accepted c.args.t.now c.in-Accepted.is c.check-checked.ensures in
     let s = c.args in
-    store_refused s.t.now s.inputs.now s.limit table_passes c.fits2.ensures c.if-not-fits.true
+    store_refused s.t.now s.inputs.now s.limit table_passes c.fits.ensures c.if-not-fits.true
 
 pub returns-then-not-in_limits : goal.returns-then-not-in_limits
 returns-then-not-in_limits c =
     let table_passes : (p : Program) × (check c.args.t.now ≡ accepted p) = check_accepted c.args.t.now c.in-Accepted.is c.check-checked.ensures in
     let limit_told : c.in_limits.result ≡ between (pos 1) most_steps c.args.limit = c.in_limits.ensures ∙ ap (between (pos 1) most_steps) (to_z-of_z w64 c.args.limit c.ranges.limit) in
     let s = c.args in
-    limit_refused s.t.now s.inputs.now s.limit table_passes c.fits2.ensures
+    limit_refused s.t.now s.inputs.now s.limit table_passes c.fits.ensures
     c.if-not-fits.false limit_told c.if-not-in_limits.true
 
 pub returns : goal.returns
@@ -39,5 +39,5 @@ returns c =
     let table_passes : (p : Program) × (check c.args.t.now ≡ accepted p) = check_accepted c.args.t.now c.in-Accepted.is c.check-checked.ensures in
     let limit_told : c.in_limits.result ≡ between (pos 1) most_steps c.args.limit = c.in_limits.ensures ∙ ap (between (pos 1) most_steps) (to_z-of_z w64 c.args.limit c.ranges.limit) in
     let s = c.args in
-    all_passed s.t.now s.inputs.now s.limit table_passes c.fits2.ensures c.if-not-fits.false
+    all_passed s.t.now s.inputs.now s.limit table_passes c.fits.ensures c.if-not-fits.false
     limit_told c.if-not-in_limits.false

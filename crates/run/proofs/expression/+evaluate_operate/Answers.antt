@@ -38,7 +38,7 @@ pub evaluate-tag-v-requires : goal.evaluate-tag-v-requires
 evaluate-tag-v-requires t c = bytes_inside c.requires
 
 pub evaluate-offset_bounds-values-v : goal.evaluate-offset_bounds-values-v
-evaluate-offset_bounds-values-v t c = omega (arith, variable-inside c)
+evaluate-offset_bounds-values-v t c = omega (arith, variable_below c.requires c.kind-k.ensures c.tag-v.ensures c.if-k-eq3.true)
 
 pub evaluate-bounds-values-v : goal.evaluate-bounds-values-v
 evaluate-bounds-values-v t c = variable_below c.requires c.kind-k.ensures c.tag-v.ensures c.if-k-eq3.true
@@ -56,9 +56,7 @@ evaluate-shape_of-out t c = c.operate.auto.out
 pub evaluate-returns : goal.evaluate-returns
 evaluate-returns t c = c.operate.ensures
 
--- ======== 
 -- `operate` in the cycle: the left operand's value and place, then the right one's, then the last step; a refusal is handed up.
--- Assumes nothing.
 
 pub operate-overflow_mul-place : goal.operate-overflow_mul-place
 operate-overflow_mul-place t c = omega (arith, bytes_inside c.requires.0)
@@ -70,7 +68,7 @@ pub operate-child_a-requires : goal.operate-child_a-requires
 operate-child_a-requires t c = bytes_inside c.requires.0
 
 pub operate-overflow_add-at : goal.operate-overflow_add-at
-operate-overflow_add-at t c = omega (arith, (left-requires c c.lifetimes).1.near)
+operate-overflow_add-at t c = omega (arith, (left_evaluable c.requires.0 c.requires.1 c.child_a.ensures).near)
 
 pub operate-evaluate-left-requires : goal.operate-evaluate-left-requires
 operate-evaluate-left-requires t c =

@@ -16,6 +16,10 @@ pub loop-i-init : goal.loop-i-init
 unfolding zeros most_variables
 loop-i-init c = (omega arith, laid_none)
 
+pub bounds-values-i : goal.bounds-values-i
+unfolding most_variables
+bounds-values-i c = omega arith
+
 pub loop-i-preserved : goal.loop-i-preserved
 loop-i-preserved c =
     let ws = c.args.words.now in

@@ -34,7 +34,7 @@ pub branch-child_a-requires : goal.branch-child_a-requires
 branch-child_a-requires t c = node_bytes c.requires.inner.known
 
 pub branch-overflow_add-after : goal.branch-overflow_add-after
-branch-overflow_add-after t c = omega (arith, (test-requires c c.lifetimes).near)
+branch-overflow_add-after t c = omega (arith, (test_evaluable c.requires c.snapshot-after.ensures.behind c.child_a.ensures).near)
 
 pub branch-evaluate-test-requires : goal.branch-evaluate-test-requires
 branch-evaluate-test-requires t c = test_evaluable c.requires c.snapshot-after.ensures.behind c.child_a.ensures
@@ -60,9 +60,7 @@ branch-returns-in-Is t c =
     branch_answer c.requires c.snapshot-after.ensures.behind test_value (omega arith) _ _ c.snapshot-after.ensures.laid c.put.ensures _ _
     c.take.ensures
 
--- ======== 
 -- `looped` in the cycle: the snapshot before, the count behind it, and then the iterations.
--- Assumes nothing.
 
 pub looped-overflow_mul-place : goal.looped-overflow_mul-place
 looped-overflow_mul-place t c = omega (arith, node_bytes c.requires.inner.known)
@@ -110,9 +108,7 @@ looped-returns-in-Is t c =
     loop_answer c.requires c.snapshot-behind.ensures.behind count_value c.child_b.ensures (omega arith) _ _ c.snapshot-behind.ensures.laid
     c.put.ensures c.times.ensures _ _ c.repeat.ensures
 
--- ======== 
 -- `parts` in the cycle: the kind that was read says who is called.
--- Assumes nothing.
 
 pub parts-overflow_mul-node : goal.parts-overflow_mul-node
 parts-overflow_mul-node t c = omega (arith, node_bytes c.requires.known)
@@ -169,9 +165,7 @@ parts-shape_of-out t c = c.looped.auto.out
 pub parts-returns : goal.parts-returns
 parts-returns t c = c.looped.ensures
 
--- ======== 
 -- `repeat` in the cycle. The loop's invariant: so many iterations are run and laid down; its measure is the iterations left.
--- Assumes nothing.
 
 pub repeat-loop-i-init : goal.repeat-loop-i-init
 repeat-loop-i-init t c = (omega arith, λ h. iterated_none h _ _ _ refl refl refl refl)
@@ -215,9 +209,7 @@ repeat-returns t c =
     let so_far : Iterated c.requires c.args.count c.args.out.now c.loop-i.i c.loop-i.so_far c.loop-i.out = c.loop-i.invariant.1 c.requires in
     iterated_all _ so_far (omega arith) c.loop-i.invariant.0
 
--- ======== 
 -- `sequence` in the cycle: the first statement, and the second from where the first ended.
--- Assumes nothing.
 
 pub sequence-overflow_mul-place : goal.sequence-overflow_mul-place
 sequence-overflow_mul-place t c = omega (arith, node_bytes c.requires.inner.known)
@@ -244,8 +236,7 @@ sequence-child_b-requires t c = node_bytes c.requires.inner.known
 pub sequence-statement-requires : goal.sequence-statement-requires
 sequence-statement-requires t c =
     let first_end : GotFirst c.requires c.statement-first.result c.args.out.now c.statement-first.new.out = got_first c.requires c.child_a.ensures _ _ _ c.statement-first.ensures c.in-Accepted.is in
-    let h = c.requires in
-    (omega (arith, h.0, second_below h.1 first_end c.child_b.ensures), second_runnable h.1 first_end c.child_b.ensures)
+    (omega (arith, c.decreases, second_below c.requires first_end c.child_b.ensures), second_runnable c.requires first_end c.child_b.ensures)
 
 pub sequence-shape_of-out : goal.sequence-shape_of-out
 sequence-shape_of-out t c = c.statement.auto.out ∙ c.statement-first.auto.out
@@ -255,9 +246,7 @@ sequence-returns t c =
     let first_end : GotFirst c.requires c.statement-first.result c.args.out.now c.statement-first.new.out = got_first c.requires c.child_a.ensures _ _ _ c.statement-first.ensures c.in-Accepted.is in
     sequence_answer c.requires first_end c.child_b.ensures _ _ c.statement.ensures
 
--- ======== 
 -- `statement` in the cycle: a step, the parts, and then the opening words round what the parts laid down.
--- Assumes nothing.
 
 pub statement-returns-then-left-eq0 : goal.statement-returns-then-left-eq0
 statement-returns-then-left-eq0 t c = dry c.requires c.if-left-eq0.true _ refl _ _
@@ -298,7 +287,7 @@ statement-open-requires t c =
     entry_openable c.requires has_step parts_end
 
 pub statement-shape_of-out : goal.statement-shape_of-out
-statement-shape_of-out t c = c.«open».auto.0 ∙ c.parts-inner.auto.out
+statement-shape_of-out t c = c.«open».auto.out ∙ c.parts-inner.auto.out
 
 pub statement-returns : goal.statement-returns
 statement-returns t c =
@@ -306,9 +295,7 @@ statement-returns t c =
     let parts_end : GotParts c.requires c.parts-inner.result c.args.out.now c.parts-inner.new.out = got_parts c.requires _ _ _ c.parts-inner.ensures c.in-Accepted.is in
     entry_answer c.requires has_step parts_end _ c.«open».ensures
 
--- ======== 
 -- `take` in the cycle: the branch that the condition takes, and the snapshot after it.
--- Assumes nothing.
 
 pub take-overflow_mul-place : goal.take-overflow_mul-place
 take-overflow_mul-place t c = omega (arith, node_bytes c.requires.known)

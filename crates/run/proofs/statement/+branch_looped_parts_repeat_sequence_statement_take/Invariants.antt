@@ -2,6 +2,7 @@
 -- parts, then its kind, then the branch taken. Iterations are measured by the body, and children stand below.
 -- Assumes nothing.
 use Prim.Native.Nat.{◌+◌, ◌*◌, ◌-◌, ◌≤◌}
+use Rattle.run.specs.Statement.{Repeatable}
 use Rattle.run.specs.Laws.Iterations.{Iterated}
 use Rattle.run.proofs.statement.+branch_looped_parts_repeat_sequence_statement_take.Given as goal
 

@@ -21,7 +21,7 @@ pub tag-v-requires : goal.tag-v-requires
 tag-v-requires c = node_bytes c.requires.inner.known
 
 pub offset_bounds-next-v : goal.offset_bounds-next-v
-offset_bounds-next-v c = omega (arith, tag-inside c)
+offset_bounds-next-v c = omega (arith, assign_tag c.requires c.tag-v.ensures)
 
 pub bounds-next-v : goal.bounds-next-v
 bounds-next-v c = assign_tag c.requires c.tag-v.ensures

@@ -18,4 +18,4 @@ pub shape_of-out : goal.shape_of-out
 shape_of-out c = laid_long c.loop-i.invariant.1
 
 pub returns : goal.returns
-returns c = (laid_all c.loop-i.invariant.1 c.loop-i-test.false, omega arith)
+returns c = record { laid = laid_all c.loop-i.invariant.1 c.loop-i-test.false; behind = omega arith }

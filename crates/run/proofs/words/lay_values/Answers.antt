@@ -20,4 +20,4 @@ shape_of-out c = laid_long c.loop-i.invariant.1
 pub returns : goal.returns
 returns c =
     let last : c.loop-i.i ≡ c.args.n = omega arith in
-    (rw last at c.loop-i.invariant.1.is, omega arith)
+    record { laid = rw last at c.loop-i.invariant.1.is; behind = omega arith }

@@ -47,8 +47,8 @@ shape_of-out c = laid_long c.loop-i.invariant.1
 
 pub returns : goal.returns
 returns c =
-    let count = c.wide-count.ensures in (
-      laid_all c.loop-i.invariant.1
-          (omega (arith, count, snapshot_long c.requires c.args.values.now)),
-      omega (arith, count, listed_long c.requires),
-    )
+    let count = c.wide-count.ensures in
+    record {
+      laid = laid_all c.loop-i.invariant.1 (omega (arith, count, snapshot_long c.requires c.args.values.now));
+      behind = omega (arith, count, listed_long c.requires);
+    }
