@@ -1,8 +1,8 @@
 -- Bounds of signed sums, differences and products, by `mag`: a word fits 64 bits when its `mag` is below 2^63, and a number of the
 -- 32-bit range has a `mag` below 2^31.
 -- Assumes nothing.
-use Rattle.std.specs.Prelude.{◌≡◌, refl, ℕ, zero, suc, ◌+◌, ◌-◌, ◌*◌, ◌^◌, ◌≤◌, ◌<◌, Bool, true, false, cond, ltb, ℤ, pos, negsuc, neg_ℤ, ◌+ℤ◌, ◌-ℤ◌, ◌*ℤ◌}
-use Rattle.std.proofs.Common.{sym, ap, ◌∙◌, subst, arith, le_trans, lt_of_le_of_lt, mul-le-mul, zero-mul, mul-zero, ltb-true, ltb-false}
+use Rattle.std.specs.Prelude.{ℕ, zero, suc, ◌+◌, ◌-◌, ◌*◌, ◌≤◌, Bool, true, false, cond, ltb, ℤ, pos, negsuc, neg_ℤ, ◌+ℤ◌, ◌-ℤ◌, ◌*ℤ◌}
+use Rattle.std.proofs.Common.{arith, le_trans, mul-le-mul}
 use Rattle.std.proofs.Math.IntN.{sub_ℕ}
 use Rattle.std.specs.Int.Signed.{mag}
 

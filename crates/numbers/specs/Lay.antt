@@ -3,12 +3,12 @@
 -- Assumes nothing.
 use Rattle.std.specs.Prelude.{◌≡◌, get_or, take, drop, set}
 use Rattle.std.proofs.Math.Path.{refl, ap}
-use Rattle.std.proofs.Common.{sym, ◌∙◌, add-zero, add-suc, take-append-drop, drop_of_length-le, set-set, take-suc, take-suc-set, length-take-le}
-use Prim.Native.Nat.{ℕ, zero, suc, ◌+◌, ◌-◌, ◌≤◌, ◌<◌}
+use Rattle.std.proofs.Common.{sym, ◌∙◌, add-zero, take-append-drop, drop_of_length-le, take-suc, take-suc-set, length-take-le}
+use Prim.Native.Nat.{ℕ, suc, ◌+◌, ◌-◌, ◌≤◌, ◌<◌}
 use native.Mathlib.Omega.{arith}
 use mathlib.Core.List.{List, [], ◌∷◌, ◌++◌, append_assoc, append-nil}
 use Rattle.std.proofs.Math.ListN.{length, length-set}
-use Rattle.std.proofs.Math.Seq.{take_all, set_out, take-set-le, drop-set-lt}
+use Rattle.std.proofs.Math.Seq.{take_all, take-set-le, drop-set-lt}
 use Rattle.std.proofs.lemmas.List.{set_comm}
 
 module _ {A : Type 0} where

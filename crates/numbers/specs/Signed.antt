@@ -1,7 +1,7 @@
 -- Signed words: the tests that the rules are written with.
 -- A word is an integer of `lib.IntN`; every test computes at once, whatever the size of the numbers.
 -- Assumes nothing.
-use Rattle.std.specs.Prelude.{Bool, true, false, ◌&&◌, eqb, ℤ, pos, negsuc}
+use Rattle.std.specs.Prelude.{Bool, false, ◌&&◌, eqb, ℤ, pos, negsuc}
 use Rattle.std.specs.Int.Signed.{le_z}
 
 -- the two words are equal

@@ -20,7 +20,7 @@ use Rattle.table.specs.declared.answer.Outcome.TheVariants.{Accepted, Refused}
 use Rattle.table.specs.declared.answer.Answer.{Answer}
 use Rattle.promises.specs.Rerun.{Left, by_run, by_patch, IsRerun}
 use Rattle.promises.proofs.Rerun.{patch_is_rerun}
-use Rattle.promises.specs.Code.{record_of, LeftByCalls, ran, patched, SameAsRun}
+use Rattle.promises.specs.Code.{LeftByCalls, ran, patched, SameAsRun}
 
 -- the code's refusal for the paper's reason of a refusal is that refusal
 refusal_back : (q : Refusal) → refusal_for (reason_of q) ≡ q

@@ -2,19 +2,11 @@
 -- The record is one that such calls left, each going on from the one before; the patch and the run on the changed inputs, in equal room,
 -- then end with the same outcome and leave the same words, and old outputs plus reported changes are the run's outputs.
 -- Assumes nothing.
-use Rattle.std.specs.Prelude.{◌≡◌, refl, ℕ, ◌+◌, ◌≤◌, true, List, ◌++◌, length, take, ℤ}
-use Rattle.std.proofs.Common.{sym, ap, ap₂, ◌∙◌, subst, arith}
-use Rattle.rules.specs.Outcome.{accepted, paper_number}
+use Rattle.std.specs.Prelude.{◌≡◌, ℕ, ◌+◌, List, ◌++◌, length, take, ℤ}
 use Rattle.rules.specs.Value.{Ty, plus_all}
-use Rattle.rules.specs.Table.{Program, check}
-use Rattle.rules.specs.Call as Paper
-use Rattle.rules.specs.Call.{Called, call_run, call_patch, limit_of, inputs_of, outputs_of, legal, IsRun, IsPatch}
-use Rattle.rules.proofs.Laws.Answer.{record_in, number_some, number_injective}
-use Rattle.table.specs.Paper.{reason_of, refusal_for, number_of, answer_of}
-use Rattle.table.specs.declared.answer.Refusal.{Refusal}
-use Rattle.table.specs.declared.answer.Refusal.TheVariants.{Header, Types, Node, Use, Depth, Store, Limit, Range, Fuel, Room, Change, Broken}
-use Rattle.table.specs.declared.answer.Outcome.{Outcome}
-use Rattle.table.specs.declared.answer.Outcome.TheVariants.{Accepted, Refused}
+use Rattle.rules.specs.Call.{IsRun, IsPatch}
+use Rattle.table.specs.Paper.{answer_of}
+use Rattle.table.specs.declared.answer.Outcome.TheVariants.{Accepted}
 use Rattle.table.specs.declared.answer.Answer.{Answer}
 
 -- ---- what the statement speaks of

@@ -3,19 +3,10 @@
 -- record's limit and the same room accept together or refuse with the same number; accepted, they leave the same words, and old
 -- outputs plus reported changes are the run's outputs.
 -- Assumes nothing.
-use Rattle.std.specs.Prelude.{◌≡◌, refl, ℕ, ◌+◌, ◌-◌, ◌*◌, ◌≤◌, Bool, true, false, List, [], ◌∷◌, ◌++◌, length, take, drop, leb, ℤ, pos, nat_abs}
-use Rattle.std.proofs.Common.{sym, ap, ◌∙◌, subst, arith, append-nil, le-leb}
-use Rattle.std.proofs.Math.Seq.{take-append_seam}
-use Rattle.rules.specs.Outcome.{Refusal, Outcome, accepted, refused, ◌>>=◌, need, room_short}
-use Rattle.rules.specs.Value.{Ty, zeros, at, plus_all}
-use Rattle.rules.specs.Table.{Program, check}
-use Rattle.rules.specs.Run.{headed, record_of}
-use Rattle.rules.specs.Patch.{steps_of, no_steps}
-use Rattle.rules.specs.Call.{Answer, Called, Finished, within, answered, finish_run, call_run, limit_of, inputs_of, outputs_of, legal, finish_patch, call_patch}
-use Rattle.rules.proofs.Laws.Outcome.{Holds, holds_of, Alike, values, refusals}
-use Rattle.rules.proofs.Laws.Answer.{number_some, Accepted, record_in, Ended, accepted_end, record_back}
-use Rattle.rules.proofs.Laws.Call.{Names}
-use Rattle.rules.proofs.Laws.Rerun.{Made, Again, named, finished, run_made, patch_made, patch_follows}
+use Rattle.std.specs.Prelude.{◌≡◌, ℕ, ◌+◌, List, ◌++◌, length, take, ℤ}
+use Rattle.rules.specs.Value.{Ty, plus_all}
+use Rattle.rules.specs.Call.{Called, call_run, call_patch}
+use Rattle.rules.proofs.Laws.Answer.{Accepted, record_in}
 
 -- ---- what the statement speaks of
 

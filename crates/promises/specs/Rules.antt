@@ -3,21 +3,21 @@
 -- wherever the record fits the room; and a run refused with 8 or 9 has none.
 -- The proof: runs and derivations of statements are the same (`run_derived`, `derived_run`), and the whole call adds the tests.
 -- Assumes nothing.
-use Rattle.std.specs.Prelude.{◌≡◌, ◌⊎◌, ℕ, ◌+◌, ◌-◌, ◌≤◌, ◌<◌, Bool, true, false, List, [], ◌∷◌, ◌++◌, take, leb, ℤ, pos, nat_abs}
+use Rattle.std.specs.Prelude.{◌≡◌, ◌⊎◌, ℕ, ◌≤◌, ◌<◌, true, List, take, ℤ, pos, nat_abs}
 use Rattle.std.proofs.Math.Path.{refl}
-use Rattle.std.proofs.Common.{sym, ap, ◌∙◌, subst, inl, inr, arith}
+use Rattle.std.proofs.Common.{sym, ◌∙◌, subst, inl, inr, arith}
 use Rattle.std.proofs.Math.ListN.{length}
 use borrow.Author.Tests.{le-leb, lt-leb}
 use Rattle.numbers.specs.Signed.{between}
-use Rattle.rules.specs.Outcome.{paper_number, Outcome, accepted, refused, ◌>>=◌, need, store_wrong, limit_wrong, room_short}
-use Rattle.rules.specs.Value.{Ty, most_variables, zeros, padded, fit}
+use Rattle.rules.specs.Outcome.{paper_number, accepted, store_wrong, limit_wrong}
+use Rattle.rules.specs.Value.{most_variables, zeros, padded, fit}
 use Rattle.rules.specs.Table.{Program, check}
-use Rattle.rules.specs.Run.{Done, most_steps, run, record_of}
+use Rattle.rules.specs.Run.{most_steps, run, record_of}
 use Rattle.rules.specs.Published.{Executes}
 use Rattle.rules.specs.Patch.{steps_of, all_fresh}
-use Rattle.rules.specs.Call.{Answer, Called, Finished, within, answered, finish_run, call_run}
+use Rattle.rules.specs.Call.{Called, Finished, within, answered, finish_run, call_run}
 use Rattle.rules.proofs.Laws.Outcome.{Holds, value, holds_bind, holds_need, holds_of, holds_if, holds_both}
-use Rattle.rules.proofs.Laws.Answer.{Accepted, Ended, accepted_end}
+use Rattle.rules.proofs.Laws.Answer.{Accepted, accepted_end}
 use Rattle.rules.specs.Tree.{mentions}
 use Rattle.rules.proofs.Laws.Typed.{Kept, run_keeps}
 use Rattle.rules.proofs.Laws.Entry.{Fine, steps_within}

@@ -2,12 +2,12 @@
 -- contracts of the code cite.
 -- A call first comes to its end as if there were room without end, and then the room decides: so 10 is the last refusal.
 -- Assumes nothing.
-use Rattle.std.specs.Prelude.{◌≡◌, ℕ, zero, suc, ◌+◌, ◌-◌, ◌*◌, Bool, true, false, ◌&&◌, List, [], ◌∷◌, ◌++◌, length, take, drop, leb, ℤ, pos, nat_abs}
+use Rattle.std.specs.Prelude.{◌≡◌, ℕ, ◌+◌, ◌-◌, ◌*◌, Bool, true, false, ◌&&◌, List, [], ◌∷◌, ◌++◌, length, take, drop, leb, ℤ, pos, nat_abs}
 use Rattle.std.specs.Int.Signed.{le_z}
 use Rattle.numbers.specs.Signed.{between}
 use Rattle.rules.specs.Outcome.{paper_number, number_of, Outcome, accepted, refused, ◌>>=◌, need, store_wrong, limit_wrong, room_short, change_wrong, broken}
 use Rattle.rules.specs.Value.{Ty, at, in_type, plus, zeros, most_variables, padded, fit, plus_all}
-use Rattle.rules.specs.Table.{Program, check}
+use Rattle.rules.specs.Table.{check}
 use Rattle.rules.specs.Run.{headed, most_steps, run, record_of}
 use Rattle.rules.specs.Patch.{Counts, steps_of, no_steps, all_fresh, visit, walk}
 

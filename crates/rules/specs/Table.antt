@@ -3,11 +3,11 @@
 -- Nodes are made into trees in rising order. A child is looked up among the parts made before, so "a child's number is below
 -- its parent's" is that the child is there; its type and sort are those of its part.
 -- Assumes nothing.
-use Rattle.std.specs.Prelude.{ℕ, zero, suc, ◌+◌, ◌-◌, ◌*◌, ◌%◌, Bool, true, false, not, ◌&&◌, List, [], ◌∷◌, ◌++◌, map, length, get_or, take, drop, leb, ltb, eqb, ℤ, pos}
+use Rattle.std.specs.Prelude.{ℕ, zero, suc, ◌+◌, ◌-◌, ◌*◌, ◌%◌, Bool, true, false, ◌&&◌, List, [], ◌∷◌, ◌++◌, map, length, get_or, take, drop, leb, ltb, eqb, ℤ, pos}
 use Rattle.std.proofs.Math.Option.{Option, none, some}
 use Rattle.std.proofs.Math.ListN.{get_elem?}
 use Rattle.std.proofs.Math.IntN.{sub_ℕ}
-use Rattle.rules.specs.Outcome.{Refusal, Outcome, accepted, refused, ◌>>=◌, need, choose, header_wrong, type_wrong, node_wrong, use_wrong, too_deep}
+use Rattle.rules.specs.Outcome.{Outcome, accepted, refused, ◌>>=◌, need, choose, header_wrong, type_wrong, node_wrong, use_wrong, too_deep}
 use Rattle.rules.specs.Value.{Ty, most_variables, type_of}
 use Rattle.rules.specs.Tree.{Operator, Expression, Statement, gives, depth}
 

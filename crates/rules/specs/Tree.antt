@@ -1,6 +1,6 @@
 -- The program as a tree: expressions and statements, each with its node number, and the variables that they mention.
 -- Assumes nothing.
-use Prim.Native.Nat.{ℕ, zero, suc, ◌+◌, max, compare, Ordering}
+use Prim.Native.Nat.{ℕ, suc, max, compare, Ordering}
 use mathlib.Core.List.{List, [], ◌∷◌, foldr}
 use Rattle.std.specs.Prelude.{ℤ, ◌+ℤ◌, ◌-ℤ◌, ◌*ℤ◌}
 use Rattle.std.specs.Int.Signed.{lt_z}

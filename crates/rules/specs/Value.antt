@@ -3,7 +3,7 @@
 -- A store or change list is 32 words, zero from the table's variable count on (`padded`); as it is handed in, and in a record's
 -- header, it is a list of one word for each variable of the table.
 -- Assumes nothing.
-use Rattle.std.specs.Prelude.{ℕ, zero, suc, ◌-◌, Bool, true, false, not, ◌&&◌, List, [], ◌∷◌, ◌++◌, map, length, get_or, set, replicate, ℤ, pos, negsuc, ◌+ℤ◌, ◌-ℤ◌}
+use Rattle.std.specs.Prelude.{ℕ, ◌-◌, Bool, true, false, not, ◌&&◌, List, [], ◌∷◌, ◌++◌, map, length, get_or, set, replicate, ℤ, pos, negsuc, ◌+ℤ◌, ◌-ℤ◌}
 use Rattle.numbers.specs.Signed.{eq_z, between}
 
 pub data Ty : Type 0 where

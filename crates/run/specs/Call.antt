@@ -1,11 +1,11 @@
 -- What the contracts of the public run and of its steps say, by the definition of the whole call.
 -- Assumes nothing.
-use Rattle.std.specs.Prelude.{◌≡◌, true, List, ℕ, ◌+◌, ◌*◌, ◌≤◌, length, take, ℤ, pos}
+use Rattle.std.specs.Prelude.{◌≡◌, List, ℕ, ◌+◌, ◌*◌, ◌≤◌, length, take, ℤ, pos}
 use Rattle.numbers.specs.Signed.{between}
 use Rattle.rules.specs.Outcome.{accepted, ◌>>=◌, need, store_wrong, limit_wrong}
 use Rattle.rules.specs.Outcome as Paper
 use Rattle.rules.specs.Value.{zeros, most_variables, padded, fit}
-use Rattle.rules.specs.Table.{Program, check, types_of}
+use Rattle.rules.specs.Table.{Program, check}
 use Rattle.rules.specs.Patch.{all_fresh}
 use Rattle.rules.specs.Run.{Done, most_steps, record_of}
 use Rattle.rules.specs.Call.{Finished, answered, finish_run, within}

@@ -1,6 +1,6 @@
 -- What the contracts of the run say of its answers, by the definitions of the rules.
 -- Assumes nothing.
-use Rattle.std.specs.Prelude.{◌≡◌, Bool, true, false, List, ℕ, ◌+◌, ◌*◌, ◌≤◌, ◌<◌, length, set, ℤ}
+use Rattle.std.specs.Prelude.{◌≡◌, true, List, ℕ, ◌+◌, ◌*◌, ◌≤◌, length, set, ℤ}
 use Rattle.std.proofs.Math.Option.{some}
 use Rattle.numbers.specs.Lay.{lay}
 use Rattle.rules.specs.Outcome.{Outcome, accepted, refused, choose, out_of_range}

@@ -1,7 +1,7 @@
 -- What the contracts of statements say, by the definitions of the rules: `run` for a statement, `inside` for its parts behind the
 -- step on entry, `iterate` for iterations.
 -- Assumes nothing.
-use Rattle.std.specs.Prelude.{◌≡◌, List, ℕ, ◌+◌, ◌*◌, ◌≤◌, ◌<◌, length, set, ℤ, pos}
+use Rattle.std.specs.Prelude.{◌≡◌, List, ℕ, ◌+◌, ◌*◌, ◌≤◌, length, set, ℤ, pos}
 use Rattle.std.proofs.Math.Option.{some}
 use Rattle.numbers.specs.Lay.{lay}
 use Rattle.rules.specs.Outcome.{accepted, refused, choose}

@@ -1,5 +1,6 @@
 // The fresh run: expressions, statements, and the whole call.
 #![tactic(auto)]
+
 pub mod call;
 pub mod expression;
 pub mod input;

@@ -1,6 +1,6 @@
 -- A field of the node at a place is what stands at that many bytes behind the place.
 -- Assumes nothing.
-use mathlib.Core.Path.{◌≡◌, refl, sym, ap, ap₂, ◌∙◌}
+use mathlib.Core.Path.{◌≡◌, sym, ap, ap₂, ◌∙◌}
 use Prim.Native.Nat.{ℕ, suc, ◌+◌, ◌*◌}
 use native.Mathlib.Nat.{add-zero, add-suc}
 use mathlib.Core.List.{List}

@@ -3,7 +3,7 @@
 -- Assumes nothing.
 use Rattle.std.specs.Prelude.{◌≡◌, ℕ, zero, suc, ◌+◌, ◌*◌, ◌≤◌, ◌<◌, Bool, true, false, ◌⊎◌, length, take, set, replicate}
 use Rattle.std.proofs.Math.Path.{sym, ap}
-use Rattle.std.proofs.Common.{◌∙◌, subst, arith, eq-or-lt_of_le, inl, inr, length-drop, get_or-drop, length-take-le, drop-cons}
+use Rattle.std.proofs.Common.{◌∙◌, subst, arith, eq-or-lt_of_le, inl, inr, length-take-le, drop-cons}
 use Rattle.std.proofs.Math.Option.{some}
 use mathlib.Core.List.{List}
 use Rattle.std.proofs.Math.ListN.{get_or, drop}

@@ -1,5 +1,6 @@
 // The table's layer: the types that all layers share, the check of a table, and what the layers above read of a checked one.
 #![tactic(auto)]
+
 pub mod access;
 pub mod answer;
 pub mod check;

@@ -1,12 +1,11 @@
 -- Laws of whole answers: what the answer and the buffer of an accepted call are, and of a refused one.
 -- Assumes nothing.
-use Rattle.std.specs.Prelude.{◌≡◌, refl, ℕ, zero, suc, ◌+◌, ◌-◌, ◌≤◌, ◌<◌, Bool, true, false, List, [], ◌∷◌, ◌++◌, length, take, leb, ℤ, pos}
-use Rattle.std.proofs.Common.{sym, ap, ◌∙◌, arith, length-append, leb-true, le-leb}
-use Rattle.std.proofs.lemmas.List.{length-replicate}
+use Rattle.std.specs.Prelude.{◌≡◌, refl, ℕ, zero, suc, ◌-◌, ◌≤◌, Bool, true, false, List, length, take, leb, ℤ}
+use Rattle.std.proofs.Common.{sym, ap, ◌∙◌, arith, leb-true, le-leb}
 use Rattle.std.proofs.Math.Seq.{take-append_seam}
 use Rattle.rules.specs.Outcome.{Refusal, header_wrong, type_wrong, node_wrong, use_wrong, too_deep, store_wrong, limit_wrong, out_of_range, fuel_spent, room_short, change_wrong, broken, paper_number, Outcome, accepted, refused, ◌>>=◌, need}
 use Rattle.rules.specs.Value.{zeros}
-use Rattle.rules.specs.Call.{Answer, Called, Finished, within, answered}
+use Rattle.rules.specs.Call.{Called, Finished, within, answered}
 
 -- the call accepted
 abbrev pub Accepted : Called → Type 0

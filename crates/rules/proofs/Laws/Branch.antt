@@ -2,22 +2,21 @@
 -- branch runs fresh from a store that agrees with the new one on all that the if mentions.
 -- The branch is spoken of as a run and a visit, so that the laws serve either one.
 -- Assumes nothing.
-use Rattle.std.specs.Prelude.{◌≡◌, ◌⊎◌, ℕ, zero, suc, ◌+◌, ◌-◌, ◌≤◌, ◌<◌, Bool, false, not, length, ℤ, pos}
+use Rattle.std.specs.Prelude.{◌≡◌, ◌⊎◌, ℕ, Bool, false, not, length, ℤ, pos}
 use Rattle.std.proofs.Math.Path.{refl, sym, ap, ap₂}
-use Rattle.std.proofs.Common.{◌∙◌, subst, inl, inr, arith, true≢false}
+use Rattle.std.proofs.Common.{◌∙◌, inl, inr, arith, true≢false}
 use Rattle.std.proofs.Math.Bool.{true}
-use mathlib.Core.List.{List, [], ◌∷◌, ◌++◌}
+use mathlib.Core.List.{List, []}
 use Rattle.std.proofs.lemmas.List.{length-replicate}
 use Rattle.numbers.specs.Signed.{eq_z}
 use Rattle.numbers.specs.Laws.{eq_z_true}
-use Rattle.rules.specs.Outcome.{Refusal, Outcome, accepted, refused, ◌>>=◌, need, choose}
-use Rattle.rules.specs.Value.{Ty, most_variables, zeros, in_type, differ, plus, minus, type_of, at, snapshot, put, minus_all}
+use Rattle.rules.specs.Outcome.{Outcome, accepted, ◌>>=◌, choose}
+use Rattle.rules.specs.Value.{Ty, most_variables, zeros, in_type, differ, plus, minus, type_of, snapshot, put, minus_all}
 use Rattle.rules.specs.Run.{Done, holds, if_words}
-use Rattle.rules.specs.Patch.{Counts, steps_of, all_fresh, Shifted, Walked, Visited, Fork, moved_all, kept, flipped}
-use Rattle.rules.proofs.Laws.Outcome.{Holds, Alike, values, alike_bind, alike_with}
+use Rattle.rules.specs.Patch.{steps_of, all_fresh, Walked, Visited, Fork, kept, flipped}
+use Rattle.rules.proofs.Laws.Outcome.{Alike, values, alike_bind, alike_with}
 use Rattle.rules.proofs.Laws.Value.{truth_cases, plus_minus, unmoved}
-use Rattle.rules.proofs.Laws.Store.{Good, Agree, difference, at_difference, length_difference, snapshot_agree, minus_snapshots, move_on, put_agrees, put_whole, length_put}
-use Rattle.rules.proofs.Laws.Mentions.{◌∈◌}
+use Rattle.rules.proofs.Laws.Store.{Agree, difference, at_difference, length_difference, snapshot_agree, minus_snapshots, move_on, put_agrees, put_whole, length_put}
 use Rattle.rules.proofs.Laws.Typed.{Kept, Keeps, keeps_choose}
 use Rattle.rules.proofs.Laws.Run.{Same, Goes, goes_choose}
 use Rattle.rules.proofs.Laws.Entry.{Fine, Step, Part}

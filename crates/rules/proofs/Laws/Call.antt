@@ -2,10 +2,10 @@
 -- that a run on the changed inputs comes to. The header is read back, the list is the difference of the two stores, and the rest
 -- is the entry theorem.
 -- Assumes nothing.
-use Rattle.std.specs.Prelude.{◌≡◌, ◌⊎◌, Bool, false, ◌&&◌, List, [], ◌∷◌, ◌++◌, take, drop, replicate, leb, ℤ, pos, negsuc, nat_abs}
+use Rattle.std.specs.Prelude.{◌≡◌, ◌⊎◌, ◌&&◌, List, [], ◌∷◌, ◌++◌, take, drop, replicate, leb, ℤ, pos, negsuc, nat_abs}
 use Rattle.std.proofs.Math.Path.{refl}
-use Rattle.std.proofs.Common.{sym, ap, ap₂, ◌∙◌, subst, arith, inl, inr, append_assoc, append-nil, length-append, ext_get_or, take_at, drop_at, length-take-le}
-use Prim.Native.Nat.{ℕ, zero, suc, ◌+◌, ◌-◌, ◌*◌, ◌≤◌, ◌<◌}
+use Rattle.std.proofs.Common.{sym, ap, ap₂, ◌∙◌, subst, arith, inl, inr, append_assoc, length-append, ext_get_or, take_at, drop_at, length-take-le}
+use Prim.Native.Nat.{ℕ, zero, suc, ◌+◌, ◌-◌, ◌*◌, ◌≤◌}
 use Rattle.std.proofs.Math.Bool.{true}
 use Rattle.std.proofs.lemmas.Bool.{false≢true}
 use Rattle.std.proofs.Math.ListN.{length}
@@ -14,7 +14,7 @@ use Rattle.std.specs.Int.Signed.{le_z}
 use borrow.Author.Tests.{le-leb, leb-true}
 use Rattle.numbers.specs.Signed.{between}
 use Rattle.numbers.specs.Laws.{and_left, and_right, and_both, sub_back}
-use Rattle.rules.specs.Outcome.{Refusal, Outcome, accepted, refused, ◌>>=◌, need, broken}
+use Rattle.rules.specs.Outcome.{accepted, broken}
 use Rattle.rules.specs.Value.{Ty, most_variables, zeros, in_type, differ, plus, minus, type_of, at, padded, fit, plus_all}
 use Rattle.rules.specs.Run.{headed, most_steps, record_of}
 use Rattle.rules.specs.Call.{length_of, limit_of, steps_in, inputs_of, outputs_of, Header, header, is_change, legal}

@@ -1,21 +1,21 @@
 -- An entry that a run left is met, and then skipped or paid for, as a run from the new store goes.
 -- `visit_follows` puts the two together: what is left to show of a statement is that the walk through its parts follows.
 -- Assumes nothing.
-use Rattle.std.specs.Prelude.{◌≡◌, refl, ◌⊎◌, ℕ, zero, suc, ◌+◌, ◌-◌, ◌≤◌, ◌<◌, Bool, length, leb, ℤ, pos, nat_abs}
+use Rattle.std.specs.Prelude.{◌≡◌, refl, ◌⊎◌, ℕ, zero, suc, ◌+◌, ◌-◌, ◌≤◌, Bool, length, leb, ℤ, pos}
 use Rattle.std.proofs.Math.Path.{sym, ap, ap₂}
 use Rattle.std.proofs.Common.{◌∙◌, subst, inl, inr, arith, le_trans, ext_get_or, le-leb}
 use Rattle.std.proofs.Math.Bool.{true, false}
 use mathlib.Core.List.{List, [], ◌∷◌, ◌++◌}
 use Rattle.std.proofs.Math.ListN.{drop}
 use Rattle.std.proofs.lemmas.Bool.{lt-leb}
-use Rattle.numbers.specs.Signed.{eq_z, between}
-use Rattle.numbers.specs.Laws.{and_both, eq_z_refl, decide}
-use Rattle.rules.specs.Outcome.{Refusal, Outcome, accepted, refused, ◌>>=◌, need, choose, fuel_spent, broken}
+use Rattle.numbers.specs.Signed.{between}
+use Rattle.numbers.specs.Laws.{eq_z_refl}
+use Rattle.rules.specs.Outcome.{Outcome, accepted, refused, choose, fuel_spent}
 use Rattle.rules.specs.Value.{Ty, most_variables, minus, type_of, at, unchanged}
 use Rattle.rules.proofs.Laws.Value.{minus_self}
 use Rattle.rules.specs.Tree.{Statement, skip, assign, sequence, if, repeat, node_of, mentions}
 use Rattle.rules.specs.Run.{Done, entry, enter, most_steps, run}
-use Rattle.rules.specs.Patch.{Cut, cut, Counts, steps_of, both, one_walked, all_reused, Entry, ends, meet, Walked, Visited, Walk, skipped, paid, visit, walk}
+use Rattle.rules.specs.Patch.{cut, Counts, steps_of, both, one_walked, all_reused, Entry, ends, meet, Walked, Visited, Walk, skipped, paid, visit, walk}
 use Rattle.rules.proofs.Laws.Outcome.{Holds, value, vacant, holds_bind, holds_of, holds_map, holds_both, holds_if, refused_accepted, Alike, values, refusals, alike_bind}
 use Rattle.rules.proofs.Laws.Store.{Good, Agree, difference, at_difference, length_difference, unchanged_agree}
 use Rattle.rules.proofs.Laws.Mentions.{◌∈◌, is_member}

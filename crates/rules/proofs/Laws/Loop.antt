@@ -2,20 +2,19 @@
 -- run fresh from a store that agrees with the new one on all that the repeat mentions, and of dropped ones the last snapshot
 -- tells where the old run ended. By induction on the old iterations; the body is spoken of as a run and a visit.
 -- Assumes nothing.
-use Rattle.std.specs.Prelude.{◌≡◌, ◌⊎◌, Bool, true, false, drop, leb, ℤ, pos}
+use Rattle.std.specs.Prelude.{◌≡◌, true, drop, leb, ℤ}
 use Rattle.std.proofs.Math.Path.{refl, sym, ap, ap₂}
-use Rattle.std.proofs.Common.{◌∙◌, subst, inl, inr, arith, length-append, le-leb}
-use Prim.Native.Nat.{ℕ, zero, suc, ◌+◌, ◌-◌, ◌≤◌, ◌<◌}
-use mathlib.Core.List.{List, [], ◌∷◌, ◌++◌, append_assoc, append-nil}
+use Rattle.std.proofs.Common.{◌∙◌, arith, length-append, le-leb}
+use Prim.Native.Nat.{ℕ, zero, suc, ◌+◌, ◌-◌, ◌≤◌}
+use mathlib.Core.List.{List, [], ◌++◌, append_assoc, append-nil}
 use Rattle.std.proofs.Math.ListN.{length}
 use Rattle.std.proofs.Math.Seq.{drop-append_seam}
-use Rattle.rules.specs.Outcome.{Refusal, Outcome, accepted, refused, ◌>>=◌, need}
-use Rattle.rules.specs.Value.{Ty, most_variables, zeros, at, snapshot, put, minus_all}
+use Rattle.rules.specs.Outcome.{Outcome, accepted}
+use Rattle.rules.specs.Value.{Ty, most_variables, zeros, snapshot, put, minus_all}
 use Rattle.rules.specs.Run.{Done, iterate}
-use Rattle.rules.specs.Patch.{Counts, steps_of, no_steps, both, all_fresh, Walked, Visited, Turn, finished, read_snapshot, moved_all, last_snapshot, complete, grown, shrunk, loop}
-use Rattle.rules.proofs.Laws.Outcome.{Holds, value, holds_bind, holds_any, holds_both, holds_map, holds_of, Alike, values, alike_bind, alike_with, alike_then}
-use Rattle.rules.proofs.Laws.Store.{Good, Agree, difference, length_snapshot, read_back, move_on}
-use Rattle.rules.proofs.Laws.Mentions.{◌∈◌, ◌⊆◌}
+use Rattle.rules.specs.Patch.{steps_of, no_steps, both, all_fresh, Walked, Visited, Turn, finished, read_snapshot, last_snapshot, complete, grown, shrunk, loop}
+use Rattle.rules.proofs.Laws.Outcome.{Holds, value, holds_bind, holds_any, holds_both, holds_map, Alike, values, alike_bind, alike_with, alike_then}
+use Rattle.rules.proofs.Laws.Store.{Good, difference, length_snapshot, read_back, move_on}
 use Rattle.rules.proofs.Laws.Typed.{Kept, Keeps, kept_self, keeps_iterate}
 use Rattle.rules.proofs.Laws.Run.{Same, Goes, goes_iterate}
 use Rattle.rules.proofs.Laws.Entry.{Fine, Step, Part, sum_of_both}

@@ -1,8 +1,8 @@
 -- Laws of the lists of variables: a part's variables are among its whole's.
 -- Assumes nothing.
-use Rattle.std.specs.Prelude.{◌≡◌, refl, Bool, true, false, ◌⊎◌}
-use Rattle.std.proofs.Common.{sym, ap, ◌∙◌, inl, inr, eqb-true}
-use Prim.Native.Nat.{ℕ, zero, suc, compare, Ordering}
+use Rattle.std.specs.Prelude.{◌≡◌, refl, ◌⊎◌}
+use Rattle.std.proofs.Common.{ap, inl, inr, eqb-true}
+use Prim.Native.Nat.{ℕ, compare, Ordering}
 use mathlib.Core.List.Memᴰ
 use mathlib.Core.List.{List, [], ◌∷◌, Memᴰ}
 use Rattle.std.proofs.Math.Decide.{ℕ_discrete}

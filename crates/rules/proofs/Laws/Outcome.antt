@@ -3,8 +3,8 @@
 -- line by line.
 -- Assumes nothing.
 use Rattle.std.specs.Prelude.{◌≡◌, refl, ℕ, Bool, true, false}
-use Rattle.std.proofs.Common.{sym, subst, arith}
-use Rattle.rules.specs.Outcome.{Refusal, Outcome, accepted, refused, ◌>>=◌, need, choose}
+use Rattle.std.proofs.Common.{subst, arith}
+use Rattle.rules.specs.Outcome.{Refusal, Outcome, accepted, refused, ◌>>=◌, need}
 
 -- ---- P of the value, if accepted
 

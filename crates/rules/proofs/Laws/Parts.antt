@@ -2,8 +2,8 @@
 -- The code goes by node numbers; these laws give it the tree.
 -- Assumes nothing.
 use Rattle.std.proofs.Math.Path.{◌≡◌, refl, sym, ap, subst}
-use Rattle.std.proofs.Common.{ap₂, ◌∙◌, add-zero, mul-suc, length-append, drop-drop}
-use Rattle.std.specs.Prelude.{ℕ, zero, suc, ◌+◌, ◌-◌, ◌*◌, ◌≤◌, ◌<◌, Bool, true, false, get_or, take, drop, leb, ltb, eqb, ℤ, pos}
+use Rattle.std.proofs.Common.{◌∙◌, add-zero, mul-suc, length-append, drop-drop}
+use Rattle.std.specs.Prelude.{ℕ, zero, suc, ◌+◌, ◌-◌, ◌*◌, ◌≤◌, ◌<◌, Bool, true, false, take, drop, leb, ltb, eqb, pos}
 use native.Mathlib.Omega.{arith}
 use Rattle.std.proofs.Math.Nat.{zero-add}
 use Rattle.std.proofs.Math.Option.{Option, none, some}
@@ -11,12 +11,12 @@ use mathlib.Core.List.{List, [], ◌∷◌, ◌++◌, append_assoc, append-nil}
 use Rattle.std.proofs.Math.ListN.{length, get_elem?}
 use Rattle.std.proofs.Math.Seq.{take-append_seam}
 use borrow.Author.Tests.{leb-true, ltb-true, eqb-true}
-use Rattle.rules.specs.Outcome.{Refusal, Outcome, accepted, refused, ◌>>=◌, need, header_wrong, node_wrong, too_deep}
+use Rattle.rules.specs.Outcome.{Outcome, accepted, refused, ◌>>=◌, need, header_wrong, node_wrong, too_deep}
 use Rattle.rules.specs.Value.{Ty, most_variables, type_of}
 use Rattle.rules.specs.Tree.{Operator, Expression, Statement, gives, depth, reads, mentions}
 use Rattle.rules.proofs.Laws.Table.{is_type_lem, PartTyped, AllTyped, FoundTyped, found_typed, all_typed}
 use Rattle.rules.specs.Table.{u16, header_length, most_nodes, marked, variables, nodes, nodes_at, total, types_of, Node, read_node, constant_of, nodes_from, is_type, check_header, check_types, type_bytes, children, check_uses, most_depth, nodes_of, Kind, number_constant, truth_constant, variable, operator, skip, assign, sequence, if, repeat, kinds, kind_of, Part, expression, statement, as_expression, as_statement, unused, make, make_kind, make_all, root_of, Program, check}
-use Rattle.rules.proofs.Laws.Outcome.{Holds, value, vacant, holds_bind, holds_need, holds_of, holds_if, holds_any, holds_map}
+use Rattle.rules.proofs.Laws.Outcome.{Holds, value, vacant, holds_bind, holds_need, holds_of, holds_if, holds_map}
 
 -- ---- what stands at a node
 

@@ -3,19 +3,18 @@
 -- The figure unrolls a repeat from its end and the run from its start; `Turns` has the iterations in the figure's way, and
 -- two laws lead from one to the other.
 -- Assumes nothing.
-use Rattle.std.specs.Prelude.{◌≡◌, refl, ◌⊎◌, Bool, true, false, not, List, [], ◌∷◌, ◌++◌, length, set, ℤ, pos, negsuc}
-use Rattle.std.proofs.Common.{sym, ap, ap₂, ◌∙◌, subst, inl, inr, arith, zero-add, add-zero, add_assoc, suc-add}
-use Prim.Native.Nat.{ℕ, zero, suc, ◌+◌, ◌-◌, ◌≤◌, ◌<◌}
-use Rattle.rules.specs.Outcome.{Refusal, Outcome, accepted, refused, ◌>>=◌, need, choose, out_of_range}
-use Rattle.rules.specs.Value.{Ty, in_type, at, snapshot}
-use Rattle.rules.specs.Tree.{Operator, Expression, Statement, gives, apply, mentions}
+use Rattle.std.specs.Prelude.{◌≡◌, refl, ◌⊎◌, List, [], ◌∷◌, ◌++◌, set, ℤ, pos, negsuc}
+use Rattle.std.proofs.Common.{sym, ap, ◌∙◌, subst, inl, inr, arith, zero-add, add-zero, add_assoc, suc-add}
+use Prim.Native.Nat.{ℕ, zero, suc, ◌+◌, ◌-◌, ◌≤◌}
+use Rattle.rules.specs.Outcome.{Outcome, accepted, choose, out_of_range}
+use Rattle.rules.specs.Value.{Ty, snapshot}
+use Rattle.rules.specs.Tree.{Expression, Statement, mentions}
 use Rattle.rules.specs.Run.{Valued, Done, compute, evaluate, entry, enter, holds, times, iterate, if_words, repeat_words, run}
 use Rattle.rules.specs.Published.{Evaluates, Executes}
 use Rattle.rules.proofs.Laws.Outcome.{Holds, value, vacant, holds_bind, holds_both, holds_map}
 use Rattle.rules.proofs.Laws.Value.{truth_cases}
 use Rattle.rules.proofs.Laws.Store.{Good}
-use Rattle.rules.proofs.Laws.Mentions.{◌⊆◌}
-use Rattle.rules.proofs.Laws.Typed.{TypedAs, Typed, value_typed, computed, Kept, run_keeps}
+use Rattle.rules.proofs.Laws.Typed.{Typed, value_typed, computed, run_keeps}
 use Rattle.rules.proofs.Laws.Shift.{computes}
 
 -- ---- expressions

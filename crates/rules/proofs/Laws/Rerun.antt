@@ -1,20 +1,19 @@
 -- From the record of an accepted run, a patch with a legal list of changes comes to the end that a run on the changed inputs comes
 -- to: `patch_follows`. What an accepted run leaves is such a record, and so is what an accepted patch of one leaves.
 -- Assumes nothing.
-use Rattle.std.specs.Prelude.{◌≡◌, refl, ℕ, zero, suc, ◌+◌, ◌-◌, ◌*◌, ◌≤◌, ◌<◌, Bool, false, length, take, drop, leb, ℤ, pos, negsuc, nat_abs}
-use Rattle.std.proofs.Common.{sym, ap, ap₂, ◌∙◌, subst, arith, le-leb, leb-true}
+use Rattle.std.specs.Prelude.{◌≡◌, refl, ℕ, ◌≤◌, length, take, ℤ, pos, nat_abs}
+use Rattle.std.proofs.Common.{sym, ap, ◌∙◌, subst, arith, le-leb}
 use Rattle.std.proofs.Math.Bool.{true}
-use Rattle.std.proofs.lemmas.Bool.{false≢true}
-use mathlib.Core.List.{List, [], ◌∷◌, ◌++◌, append-nil}
+use mathlib.Core.List.{List, [], ◌++◌, append-nil}
 use Rattle.numbers.specs.Signed.{between}
-use Rattle.numbers.specs.Laws.{and_left, and_right, and_both}
-use Rattle.rules.specs.Outcome.{Refusal, Outcome, accepted, refused, ◌>>=◌, need, store_wrong, limit_wrong, change_wrong}
-use Rattle.rules.specs.Value.{Ty, most_variables, zeros, at, padded, fit, plus_all}
-use Rattle.rules.specs.Tree.{Statement, mentions}
+use Rattle.numbers.specs.Laws.{and_both}
+use Rattle.rules.specs.Outcome.{Outcome, accepted, store_wrong, limit_wrong, change_wrong}
+use Rattle.rules.specs.Value.{Ty, most_variables, zeros, padded, fit, plus_all}
+use Rattle.rules.specs.Tree.{mentions}
 use Rattle.rules.specs.Table.{Program, check}
 use Rattle.rules.specs.Run.{Done, most_steps, run, record_of}
-use Rattle.rules.specs.Patch.{Counts, steps_of, all_fresh, ends, Visited, visit, walk}
-use Rattle.rules.specs.Call.{Finished, finish_run, Header, header, legal, finish_patch}
+use Rattle.rules.specs.Patch.{Counts, steps_of, all_fresh, ends, visit, walk}
+use Rattle.rules.specs.Call.{Finished, finish_run, header, legal, finish_patch}
 use Rattle.rules.proofs.Laws.Outcome.{Holds, value, vacant, holds_bind, holds_need, holds_of, holds_if, holds_const, Alike, values, refusals, alike_bind, alike_with}
 use Rattle.rules.proofs.Laws.Store.{Good, difference, length_difference}
 use Rattle.rules.proofs.Laws.Typed.{Kept, run_keeps}

@@ -2,20 +2,19 @@
 -- `run_costs`: an accepted run has the steps that it needs; with as many or more left it ends the same, with fewer it is 9.
 -- Each goes through the statement's kinds; a law for each way of putting runs together keeps the cases to a few lines.
 -- Assumes nothing.
-use Rattle.std.specs.Prelude.{◌≡◌, refl, ◌⊎◌, Bool, true, false, length, set, ℤ, pos}
-use Rattle.std.proofs.Common.{sym, ◌∙◌, subst, inl, inr, arith, lt_of_not-le}
+use Rattle.std.specs.Prelude.{◌≡◌, refl, Bool, true, false, ℤ}
+use Rattle.std.proofs.Common.{subst, arith, lt_of_not-le}
 use Rattle.std.proofs.Math.Path.{ap, ap₂}
 use Prim.Native.Nat.{ℕ, zero, suc, ◌+◌, ◌-◌, ◌≤◌, ◌<◌}
 use Rattle.std.proofs.Math.Decide.{dec_le}
 use mathlib.Core.List.Memᴰ
-use mathlib.Core.List.{List, [], ◌∷◌, ◌++◌}
-use Rattle.rules.specs.Outcome.{Refusal, Outcome, accepted, refused, ◌>>=◌, need, choose, out_of_range, fuel_spent}
-use Rattle.rules.specs.Value.{at, snapshot}
+use mathlib.Core.List.{List, ◌++◌}
+use Rattle.rules.specs.Outcome.{Outcome, accepted, refused, ◌>>=◌, choose, fuel_spent}
 use Rattle.rules.specs.Tree.{Expression, constant, variable, operation, Statement, skip, assign, sequence, if, repeat, reads, mentions}
-use Rattle.rules.specs.Run.{Valued, Done, compute, evaluate, entry, enter, holds, times, iterate, if_words, repeat_words, run}
-use Rattle.rules.proofs.Laws.Outcome.{Holds, value, vacant, holds_bind, holds_of, Alike, values, refusals, alike_bind, alike_after}
+use Rattle.rules.specs.Run.{Done, evaluate, entry, enter, holds, times, iterate, if_words, repeat_words, run}
+use Rattle.rules.proofs.Laws.Outcome.{Holds, value, vacant, holds_bind, Alike, values, refusals, alike_bind, alike_after}
 use Rattle.rules.proofs.Laws.Store.{Agree, agree_part, snapshot_agree, agree_set}
-use Rattle.rules.proofs.Laws.Mentions.{◌∈◌, ◌⊆◌, union_left, union_right, sequence_first, sequence_second, if_condition, if_then, if_else, repeat_count, repeat_body, assign_expression, assign_variable}
+use Rattle.rules.proofs.Laws.Mentions.{◌⊆◌, union_left, union_right, sequence_first, sequence_second, if_condition, if_then, if_else, repeat_count, repeat_body, assign_expression}
 
 -- ---- stores that agree on what is read
 

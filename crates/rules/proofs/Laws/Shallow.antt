@@ -1,18 +1,17 @@
 -- The tree of an accepted table is small: its depth is at most 24, so no expression has 2^24 operators, and no statement mentions more
 -- variables than the table has.
 -- Assumes nothing.
-use Rattle.std.specs.Prelude.{◌≡◌, refl, List, [], take, leb}
-use Rattle.std.proofs.Common.{sym, ap, ◌∙◌, arith, leb-true}
+use Rattle.std.specs.Prelude.{◌≡◌, List, [], take, leb}
+use Rattle.std.proofs.Common.{sym, arith, leb-true}
 use Rattle.std.proofs.Math.Path.{subst}
-use Prim.Native.Nat.{ℕ, zero, suc, ◌+◌, ◌-◌, ◌*◌, ◌≤◌, ◌<◌, max}
-use Rattle.std.proofs.Math.Option.{Option, some}
+use Prim.Native.Nat.{ℕ, zero, suc, ◌+◌, ◌-◌, ◌≤◌, ◌<◌, max}
+use Rattle.std.proofs.Math.Option.{some}
 use Rattle.std.proofs.Math.ListN.{length, get_elem?}
-use Rattle.rules.specs.Outcome.{accepted, ◌>>=◌, too_deep}
-use Rattle.rules.specs.Value.{Ty, most_variables}
+use Rattle.rules.specs.Outcome.{accepted, too_deep}
 use Rattle.rules.specs.Tree.{Expression, Statement, depth_of, depth, mentions}
-use Rattle.rules.specs.Table.{nodes, Kind, number_constant, truth_constant, variable, operator, skip, assign, sequence, if, repeat, types_of, type_bytes, nodes_of, check_header, check_types, check_uses, children, most_depth, make_all, as_statement, root_of, Part, expression, statement, Program, check}
+use Rattle.rules.specs.Table.{nodes, Kind, number_constant, truth_constant, variable, operator, skip, assign, sequence, if, repeat, types_of, type_bytes, nodes_of, check_header, check_types, check_uses, children, most_depth, make_all, as_statement, root_of, statement, Program, check}
 use Rattle.rules.proofs.Laws.Outcome.{Holds, value, holds_bind, holds_need, holds_of, holds_any}
-use Rattle.rules.proofs.Laws.Parts.{no_expression, statement_of, part_at, parts_of, node_at, Built, Stands, stands, child_at, root_at}
+use Rattle.rules.proofs.Laws.Parts.{no_expression, statement_of, part_at, parts_of, node_at, Built, stands, child_at, root_at}
 use Rattle.rules.proofs.Laws.Size.{operations, few_operators, Small}
 use Rattle.rules.proofs.Laws.Rising.{rises_short}
 use Rattle.rules.proofs.Laws.Header.{sized, types_long}

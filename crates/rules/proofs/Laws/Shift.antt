@@ -1,12 +1,12 @@
 -- An expression's shift is its evaluation on the new store: through the record that evaluating left, with the difference of the
 -- two stores, the walk answers what evaluating anew answers. By induction on the expression, in record order.
 -- Assumes nothing.
-use Rattle.std.specs.Prelude.{◌≡◌, refl, ℕ, Bool, true, false, length, ℤ, pos}
+use Rattle.std.specs.Prelude.{◌≡◌, true, length, ℤ}
 use Rattle.std.proofs.Common.{sym, ap₂, ◌∙◌}
 use Rattle.std.proofs.Math.Path.{ap}
 use mathlib.Core.List.{List, [], ◌∷◌, ◌++◌, append_assoc}
-use Rattle.rules.specs.Outcome.{Refusal, Outcome, accepted, refused, ◌>>=◌, need, out_of_range, broken}
-use Rattle.rules.specs.Value.{Ty, in_type, minus, plus, at, type_of}
+use Rattle.rules.specs.Outcome.{Refusal, accepted, out_of_range, broken}
+use Rattle.rules.specs.Value.{Ty, in_type, minus, at}
 use Rattle.rules.specs.Tree.{Operator, Expression, constant, variable, operation, gives, apply}
 use Rattle.rules.specs.Run.{Valued, compute, evaluate}
 use Rattle.rules.specs.Patch.{Shifted, read, read_in, moved, shift}

@@ -2,8 +2,8 @@
 -- statement leaves at most, by its steps.
 -- Assumes nothing.
 use Rattle.std.specs.Prelude.{◌≡◌, refl, ℕ, zero, suc, ◌+◌, ◌-◌, ◌*◌, ◌≤◌, ◌<◌, Bool, true, false, List, ◌++◌, length, ℤ}
-use Rattle.std.proofs.Common.{ap, ◌∙◌, arith, length-append}
-use Rattle.rules.specs.Outcome.{Outcome, accepted, ◌>>=◌, choose, out_of_range}
+use Rattle.std.proofs.Common.{arith, length-append}
+use Rattle.rules.specs.Outcome.{Outcome, choose, out_of_range}
 use Rattle.rules.specs.Value.{snapshot}
 use Rattle.rules.specs.Tree.{Expression, constant, variable, operation, Statement, skip, assign, sequence, if, repeat, mentions}
 use Rattle.rules.specs.Run.{Done, compute, evaluate, entry, enter, holds, times, iterate, if_words, repeat_words, run}

@@ -1,14 +1,14 @@
 -- Laws of stores: the difference of two stores variable by variable, snapshots and what is put back from them.
 -- Two lists of equal length are equal when they have the same word at each variable.
 -- Assumes nothing.
-use Rattle.std.specs.Prelude.{◌≡◌, refl, ◌⊎◌, ℕ, zero, suc, ◌+◌, ◌≤◌, ◌<◌, Bool, true, false, ◌&&◌, List, [], ◌∷◌, ◌++◌, map, length, get_or, set, ℤ, pos}
+use Rattle.std.specs.Prelude.{◌≡◌, refl, ◌⊎◌, ℕ, zero, suc, true, List, [], ◌∷◌, ◌++◌, length, set, ℤ, pos}
 use Rattle.std.proofs.Common.{sym, ap, ap₂, ◌∙◌, inl, inr, arith, length-set, ext_get_or}
 use mathlib.Core.List.Memᴰ
 use Rattle.std.proofs.lemmas.List.{length-map}
 use Rattle.numbers.specs.Signed.{eq_z}
 use Rattle.numbers.specs.Laws.{and_left, and_right, eq_z_true}
-use Rattle.rules.specs.Outcome.{Outcome, accepted, refused, ◌>>=◌, need}
-use Rattle.rules.specs.Value.{Ty, in_type, plus, minus, at, type_of, snapshot, put, minus_all, unchanged}
+use Rattle.rules.specs.Outcome.{accepted}
+use Rattle.rules.specs.Value.{Ty, in_type, minus, at, type_of, snapshot, put, minus_all, unchanged}
 use Rattle.rules.specs.Patch.{read, read_in, moved, read_snapshot, moved_all}
 use Rattle.rules.proofs.Laws.Value.{plus_minus, minus_self, unmoved}
 use Rattle.rules.proofs.Laws.Mentions.{◌∈◌, ◌⊆◌, is_member}

@@ -1,18 +1,16 @@
 -- What an accepted table gives: at most 32 variables, and a typed tree. Each part that is made is typed, since its children were.
 -- Assumes nothing.
-use Rattle.std.specs.Prelude.{◌≡◌, refl, ℕ, zero, suc, ◌+◌, ◌-◌, ◌*◌, ◌%◌, ◌≤◌, ◌<◌, Bool, true, false, cond, ◌⊎◌, List, [], ◌∷◌, ◌++◌, map, length, take, drop, leb, ltb, ℤ, pos, negsuc}
-use Rattle.std.proofs.Common.{sym, ap, ◌∙◌, arith, mod-lt, inl, inr, length-take, leb-true, le-leb, ltb-true, ltb-false}
+use Rattle.std.specs.Prelude.{◌≡◌, refl, ℕ, zero, suc, ◌+◌, ◌-◌, ◌*◌, ◌%◌, ◌≤◌, ◌<◌, Bool, true, false, cond, List, [], ◌∷◌, ◌++◌, length, take, drop, leb, ltb, pos, negsuc}
+use Rattle.std.proofs.Common.{arith, length-take, leb-true, le-leb, ltb-true, ltb-false}
 use Rattle.std.proofs.lemmas.Bool.{false≢true}
 use Rattle.std.proofs.Math.Option.{Option, none, some}
 use Rattle.std.proofs.Math.ListN.{get_elem?}
 use Rattle.std.proofs.lemmas.List.{length-map}
-use Rattle.std.proofs.Math.IntN.{sub_ℕ}
-use Rattle.std.specs.Int.Signed.{le_z}
 use Rattle.numbers.specs.Signed.{between}
-use Rattle.numbers.specs.Laws.{and_both, decide}
-use Rattle.rules.specs.Outcome.{Refusal, Outcome, accepted, refused, ◌>>=◌, need, header_wrong, node_wrong, too_deep}
+use Rattle.numbers.specs.Laws.{and_both}
+use Rattle.rules.specs.Outcome.{Outcome, accepted, refused, ◌>>=◌, need, header_wrong, node_wrong, too_deep}
 use Rattle.rules.specs.Value.{Ty, most_variables, lowest, highest, in_type, type_of}
-use Rattle.rules.specs.Tree.{Operator, Expression, Statement, gives, depth}
+use Rattle.rules.specs.Tree.{Expression, Statement, depth}
 use Rattle.rules.specs.Table.{signed, header_length, marked, variables, check_header, check_types, nodes_of, children, check_uses, most_depth, type_bytes, ty_of, types_of, Node, constant_of, Kind, kind_of, number_constant, truth_constant, variable, operator, skip, assign, sequence, if, repeat, Part, expression, statement, is_type, as_expression, as_statement, unused, make, make_kind, make_all, root_of, Program, check}
 use Rattle.rules.proofs.Laws.Outcome.{Holds, value, vacant, holds_bind, holds_need, holds_any, holds_const}
 use Rattle.rules.proofs.Laws.Typed.{TypedAs, Typed}

@@ -1,13 +1,13 @@
 -- Typed trees: what the table check gives of a program, and that a run keeps every value in its type, leaves the variables that
 -- it does not mention alone, and keeps the store's length.
 -- Assumes nothing.
-use Rattle.std.specs.Prelude.{◌≡◌, refl, ◌⊎◌, Bool, true, false, List, [], ◌∷◌, ◌++◌, length, get_or, set, ℤ, pos}
+use Rattle.std.specs.Prelude.{◌≡◌, refl, ◌⊎◌, Bool, true, false, List, [], ◌∷◌, length, set, ℤ, pos}
 use Rattle.std.proofs.Common.{sym, ap, ◌∙◌, subst, inl, inr, length-set, get_or-set_other}
 use Prim.Native.Nat.{ℕ, zero, suc, ◌-◌}
-use Rattle.rules.specs.Outcome.{Refusal, Outcome, accepted, refused, ◌>>=◌, need, choose, out_of_range}
+use Rattle.rules.specs.Outcome.{Refusal, Outcome, choose, out_of_range}
 use Rattle.rules.specs.Value.{Ty, in_type, at, type_of}
 use Rattle.rules.specs.Tree.{Operator, Expression, constant, variable, operation, Statement, skip, assign, sequence, if, repeat, gives, apply, mentions}
-use Rattle.rules.specs.Run.{Valued, Done, compute, evaluate, enter, holds, times, iterate, run}
+use Rattle.rules.specs.Run.{Done, compute, evaluate, enter, holds, times, iterate, run}
 use Rattle.rules.proofs.Laws.Outcome.{Holds, value, vacant, holds_bind, holds_need}
 use Rattle.rules.proofs.Laws.Store.{Good}
 use Rattle.rules.proofs.Laws.Mentions.{◌∈◌, ◌⊆◌, sequence_first, sequence_second, if_then, if_else, repeat_body, assign_variable}

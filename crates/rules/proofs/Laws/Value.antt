@@ -1,14 +1,14 @@
 -- Laws of values and changes: a change is undone by a sum, zero is the only "no change", and what stands at each variable of
 -- a store, a difference of stores and a snapshot.
 -- Assumes nothing.
-use Rattle.std.specs.Prelude.{◌≡◌, refl, ℕ, zero, suc, ◌+◌, ◌≤◌, ◌<◌, Bool, true, false, ◌&&◌, ◌⊎◌, List, [], ◌∷◌, ◌++◌, map, length, get_or, set, ℤ, pos, negsuc, ◌+ℤ◌, ◌-ℤ◌}
-use Rattle.std.proofs.Common.{sym, ap, ◌∙◌, inl, inr, ⊎_elim, arith, leb-true}
+use Rattle.std.specs.Prelude.{◌≡◌, refl, zero, suc, ◌≤◌, true, ◌⊎◌, ℤ, pos, negsuc}
+use Rattle.std.proofs.Common.{sym, ap, ◌∙◌, inl, inr, arith, leb-true}
 use Rattle.std.proofs.lemmas.Bool.{false≢true}
 use Rattle.std.specs.Int.Signed.{le_z}
 use Rattle.std.proofs.Math.IntN.{+ℤ_idr, +ℤ_invr}
-use Rattle.numbers.specs.Signed.{eq_z, between}
-use Rattle.numbers.specs.Laws.{and_left, and_right, and_both, eq_z_refl, add_back, sub_back}
-use Rattle.rules.specs.Value.{Ty, in_type, differ, plus, minus, lowest, highest, at, type_of}
+use Rattle.numbers.specs.Signed.{between}
+use Rattle.numbers.specs.Laws.{and_right, eq_z_refl, add_back}
+use Rattle.rules.specs.Value.{Ty, in_type, differ, plus, minus, lowest, highest}
 
 -- ---- one value
 

@@ -2,24 +2,22 @@
 -- store goes: accepted with its words, the difference of the two ends and its steps, or refused for its reason.
 -- By induction on the statement; each kind's parts follow by the laws of shifts, entries, branches and loops.
 -- Assumes nothing.
-use Rattle.std.specs.Prelude.{◌≡◌, ◌⊎◌, ℕ, zero, suc, ◌+◌, ◌-◌, ◌≤◌, ◌<◌, Bool, not, length, set, ℤ, pos}
+use Rattle.std.specs.Prelude.{◌≡◌, ℕ, ◌-◌, ◌≤◌, Bool, length, set, ℤ, pos}
 use Rattle.std.proofs.Math.Path.{refl, sym, ap}
-use Rattle.std.proofs.Common.{ap₂, ◌∙◌, subst, inl, inr, arith}
+use Rattle.std.proofs.Common.{◌∙◌, arith}
 use Rattle.std.proofs.Math.Bool.{true, false}
-use mathlib.Core.List.{List, [], ◌∷◌, ◌++◌, append_assoc, append-nil}
+use mathlib.Core.List.{List, [], ◌++◌, append-nil}
 use Rattle.numbers.specs.Signed.{eq_z}
-use Rattle.numbers.specs.Laws.{eq_z_true}
-use Rattle.rules.specs.Outcome.{Refusal, Outcome, accepted, refused, ◌>>=◌, need, choose}
-use Rattle.rules.specs.Value.{Ty, in_type, minus, type_of, at, snapshot}
+use Rattle.rules.specs.Outcome.{Outcome, accepted, ◌>>=◌, choose}
+use Rattle.rules.specs.Value.{Ty, minus, type_of, snapshot}
 use Rattle.rules.specs.Tree.{Expression, Statement, skip, assign, sequence, if, repeat, node_of, mentions}
-use Rattle.rules.specs.Run.{Valued, Done, evaluate, enter, holds, times, iterate, if_words, repeat_words, run}
-use Rattle.rules.specs.Patch.{Read, read_in, Counts, steps_of, no_steps, both, Shifted, Walked, Visited, Fork, finished, ends, read_snapshot, moved_all, shift, kept, flipped, loop, visit, walk}
+use Rattle.rules.specs.Run.{Valued, Done, evaluate, holds, times, iterate, if_words, repeat_words, run}
+use Rattle.rules.specs.Patch.{steps_of, no_steps, both, Walked, finished, ends, shift, visit, walk}
 use Rattle.rules.proofs.Laws.Outcome.{Holds, value, holds_bind, holds_both, holds_map, holds_all, Alike, values, alike_bind, alike_with}
-use Rattle.rules.proofs.Laws.Value.{unmoved}
-use Rattle.rules.proofs.Laws.Store.{Good, difference, set_difference, read_back, move_on}
-use Rattle.rules.proofs.Laws.Mentions.{◌∈◌, ◌⊆◌, sequence_first, sequence_second, if_then, if_else, repeat_body}
-use Rattle.rules.proofs.Laws.Typed.{TypedAs, Typed, value_typed, Kept, run_keeps, keeps_choose, keeps_iterate}
-use Rattle.rules.proofs.Laws.Run.{run_alike, goes_choose}
+use Rattle.rules.proofs.Laws.Store.{difference, set_difference, read_back, move_on}
+use Rattle.rules.proofs.Laws.Mentions.{◌⊆◌, if_then, if_else, repeat_body}
+use Rattle.rules.proofs.Laws.Typed.{TypedAs, Typed, value_typed, Kept, run_keeps, keeps_choose}
+use Rattle.rules.proofs.Laws.Run.{run_alike}
 use Rattle.rules.proofs.Laws.Shift.{Shift, shift_follows, reads_in, moves_to}
 use Rattle.rules.proofs.Laws.Entry.{Fine, Step, Part, Visits, Walks, visit_follows, enter_walks, sum_of_both}
 use Rattle.rules.proofs.Laws.Branch.{forked}

@@ -1,6 +1,6 @@
 -- Repeats: the count, a snapshot and the iterations; words laid at places that do not overlap may be laid in any order.
 -- Assumes nothing.
-use Rattle.std.specs.Prelude.{◌≡◌, ℕ, ◌+◌, ◌-◌, ◌*◌, ◌≤◌, ◌<◌, ℤ}
+use Rattle.std.specs.Prelude.{◌≡◌, ℕ, ◌+◌, ◌*◌, ◌≤◌, ◌<◌, ℤ}
 use Rattle.std.proofs.Common.{sym, ◌∙◌, arith, add-one, length-append}
 use Rattle.std.proofs.Math.Path.{ap, ap₂, subst}
 use Rattle.std.proofs.Math.Option.{Option, some}

@@ -1,10 +1,10 @@
 -- Numbers of the 32-bit range in 64-bit words: a word is read back as it was written, sums, differences and products fit, and the
 -- two tests at the ends of the range are the definition's.
 -- Assumes nothing.
-use Rattle.std.specs.Prelude.{◌≡◌, refl, ℕ, zero, suc, ◌+◌, ◌*◌, ◌^◌, ◌≤◌, ◌<◌, Bool, true, false, ◌&&◌, ◌⊎◌, List, set, T, leb, eqb, ℤ, pos, negsuc, nat_abs, ◌+ℤ◌, ◌-ℤ◌, ◌*ℤ◌}
-use Rattle.std.proofs.Common.{sym, ap, ap₂, ◌∙◌, subst, arith, lt_of_le_of_lt, le_trans, mul-le-mul, true≢false, inl, inr, lit<, lit≤, Fits, SFits, to_z, of_z, leb-true, le-leb, ltb-true, ltb-false, eq-eqb, ne_eqb}
+use Rattle.std.specs.Prelude.{◌≡◌, refl, ℕ, zero, suc, ◌+◌, ◌<◌, Bool, true, false, ◌&&◌, ◌⊎◌, List, set, T, leb, eqb, ℤ, pos, negsuc, nat_abs, ◌+ℤ◌, ◌-ℤ◌, ◌*ℤ◌}
+use Rattle.std.proofs.Common.{sym, ap, ap₂, ◌∙◌, subst, arith, lt_of_le_of_lt, mul-le-mul, true≢false, inl, inr, lit<, Fits, SFits, to_z, of_z, leb-true, le-leb, ltb-true, ltb-false, eq-eqb, ne_eqb}
 use Rattle.std.proofs.lemmas.Bool.{false≢true, lt-leb}
-use Rattle.std.specs.Int.Signed.{mag, non_neg, le_z, lt_z}
+use Rattle.std.specs.Int.Signed.{mag, non_neg, lt_z}
 use Rattle.std.specs.Int.{w64}
 use Rattle.std.proofs.lemmas.Int.{to_z-of_z, to_z_pos}
 use Rattle.numbers.specs.Signed.{eq_z, between}
@@ -15,7 +15,6 @@ use Rattle.rules.specs.Tree.{Operator, gives, apply}
 use Rattle.rules.specs.Run.{times}
 use Rattle.rules.specs.Table.{operator}
 use Rattle.rules.proofs.Laws.Parts.{number_of_kind}
-use Rattle.run.specs.declared.number.Computed.{Computed}
 use Rattle.run.specs.declared.number.Computed.TheVariants.{Is as Result, Outside}
 use Rattle.run.specs.Code.{Number, computed_as}
 

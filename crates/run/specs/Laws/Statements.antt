@@ -1,6 +1,6 @@
 -- Statements in code: what each kind of node is made of, what its parts ask, and that the answers put together are the definition's.
 -- Assumes nothing.
-use Rattle.std.specs.Prelude.{◌≡◌, refl, ℕ, ◌+◌, ◌-◌, ◌*◌, ◌≤◌, ◌<◌, length, get_or, take, drop, set, ℤ}
+use Rattle.std.specs.Prelude.{◌≡◌, refl, ℕ, ◌+◌, ◌*◌, ◌≤◌, ◌<◌, length, get_or, take, drop, set, ℤ}
 use Rattle.std.proofs.Common.{sym, ◌∙◌, subst, arith, to_z, of_z}
 use Rattle.std.proofs.Math.Path.{ap, ap₂}
 use Rattle.std.proofs.Math.Nat.{add-zero}

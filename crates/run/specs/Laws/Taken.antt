@@ -1,6 +1,6 @@
 -- The branch that a condition takes, and the snapshot after it: the branch goes on from where the condition ended.
 -- Assumes nothing.
-use Rattle.std.specs.Prelude.{◌≡◌, refl, ℕ, zero, suc, ◌-◌, ◌≤◌, ◌<◌, Bool, true, false, List, length, ℤ, pos, negsuc, eqb}
+use Rattle.std.specs.Prelude.{◌≡◌, refl, ℕ, zero, suc, ◌≤◌, ◌<◌, Bool, true, false, List, length, ℤ, pos, negsuc, eqb}
 use Rattle.std.proofs.Common.{sym, ap, ap₂, ◌∙◌, subst, arith, SFits, to_z, of_z, ne_eqb}
 use Rattle.std.proofs.Math.Option.{some}
 use Rattle.std.specs.Int.{w64}
@@ -20,7 +20,7 @@ use Rattle.table.specs.declared.answer.Outcome.TheVariants.{Accepted, Refused}
 use Rattle.run.specs.declared.statement.Ran.{Ran}
 use Rattle.run.specs.Words.{Listed}
 use Rattle.run.specs.Statement.{RanAs, RunsTo, TookAs, TakesTo, Known, Runnable, Takeable}
-use Rattle.run.specs.Laws.Expressions.{node_read, got}
+use Rattle.run.specs.Laws.Expressions.{node_read}
 use Rattle.run.specs.Laws.Statements.{built, read_field, for_statement, list_is, listed_at, accepted_refused, RunGot, run_got}
 use Rattle.run.specs.Laws.Sequences.{child_known}
 

@@ -9,7 +9,6 @@ use Rattle.rules.specs.Outcome.{accepted}
 use Rattle.rules.specs.Table.{Program, check}
 use Rattle.rules.specs.Run.{most_steps}
 use Rattle.run.specs.Laws.Tests.{check_refused, check_accepted, types_inside, store_refused, limit_refused, all_passed}
-use borrow.Author.Tests.{not-true, not-false}
 use Rattle.run.proofs.call.tested.Goals as goal
 
 pub returns-in_default : goal.returns-in_default

@@ -1,7 +1,6 @@
 -- `run::input::padded` meets its contract. The loop's invariant: the first i values are laid over the zeros.
 -- Assumes nothing.
 use mathlib.Core.Path.{◌≡◌, refl, sym, ◌∙◌}
-use Prim.Native.Nat.{◌-◌}
 use native.Mathlib.Omega.{arith}
 use native.Mathlib.Nat.{zero-add}
 use lib.ListN.{length, get_or, take}

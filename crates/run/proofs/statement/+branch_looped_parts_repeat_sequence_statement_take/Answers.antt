@@ -6,7 +6,6 @@ use Rattle.run.specs.Laws.Statements.{node_bytes, kind_read}
 use Rattle.run.specs.Laws.Branches.{branch_listed, test_evaluable, test_refused, GotTest, got_test, branch_takeable, branch_answer}
 use Rattle.run.specs.Laws.Loops.{loop_listed, count_evaluable, count_refused, GotCount, got_count, body_below, loop_repeatable, loop_answer}
 use Rattle.run.specs.Laws.Compound.{skip_answer, last_kind, dry, inner_of, entry_refused, GotParts, got_parts, parts_place, parts_left, entry_openable, entry_answer}
-use Prim.Native.Nat.{◌-◌}
 use Rattle.run.specs.Laws.Iterations.{Iterated, iterated_none, iterated_long, iterated_all, again_runnable, again_refused, again_listed, again_done}
 use Rattle.run.specs.Laws.Sequences.{first_below, first_runnable, first_refused, GotFirst, got_first, second_below, second_runnable, sequence_answer}
 use Rattle.run.specs.Laws.Taken.{take_below, take_runnable, take_listed, take_refused, take_answer}
@@ -85,8 +84,7 @@ looped-child_b-requires t c = node_bytes c.requires.inner.known
 
 pub looped-repeat-requires : goal.looped-repeat-requires
 looped-repeat-requires t c =
-    let count_value : GotCount c.requires c.snapshot-behind.ensures.behind c.in-Is.z c.in-Is.end c.snapshot-behind.new.out c.evaluate-counted.new.out = got_count c.requires c.snapshot-behind.ensures.behind c.child_a.ensures _ _ _ c.evaluate-counted.ensures c.in-Is.is in
-    (
+    let count_value : GotCount c.requires c.snapshot-behind.ensures.behind c.in-Is.z c.in-Is.end c.snapshot-behind.new.out c.evaluate-counted.new.out = got_count c.requires c.snapshot-behind.ensures.behind c.child_a.ensures _ _ _ c.evaluate-counted.ensures c.in-Is.is in (
       omega (arith, c.decreases, body_below c.requires c.snapshot-behind.ensures.behind count_value c.child_b.ensures),
       loop_repeatable c.requires c.snapshot-behind.ensures.behind count_value c.child_b.ensures,
     )
@@ -153,11 +151,10 @@ pub parts-returns-then-k-eq19 : goal.parts-returns-then-k-eq19
 parts-returns-then-k-eq19 t c = c.branch-t.ensures
 
 pub parts-looped-requires : goal.parts-looped-requires
-parts-looped-requires t c =
-    (
-      omega (arith, c.decreases),
-      record { inner = c.requires; kinded = last_kind c.requires.known c.kind-k.ensures c.if-k-eq16.false c.if-k-eq17.false c.if-k-eq18.false c.if-k-eq19.false },
-    )
+parts-looped-requires t c = (
+  omega (arith, c.decreases),
+  record { inner = c.requires; kinded = last_kind c.requires.known c.kind-k.ensures c.if-k-eq16.false c.if-k-eq17.false c.if-k-eq18.false c.if-k-eq19.false },
+)
 
 pub parts-shape_of-out : goal.parts-shape_of-out
 parts-shape_of-out t c = c.looped.auto.out
@@ -191,13 +188,12 @@ repeat-snapshot-requires t c =
     again_listed _ so_far c.loop-i-test.true _ _ c.statement-so_far.ensures c.in-Accepted.is
 
 pub repeat-loop-i-preserved : goal.repeat-loop-i-preserved
-repeat-loop-i-preserved t c =
-    (
-      omega arith,
-      λ h. again_done h (c.loop-i.invariant.1 h) c.loop-i-test.true _ _ c.statement-so_far.ensures c.in-Accepted.is _ _
-          c.in-Accepted.is refl refl c.snapshot.ensures.behind
-          c.snapshot.ensures.laid,
-    )
+repeat-loop-i-preserved t c = (
+  omega arith,
+  λ h. again_done h (c.loop-i.invariant.1 h) c.loop-i-test.true _ _ c.statement-so_far.ensures c.in-Accepted.is _ _
+      c.in-Accepted.is refl refl c.snapshot.ensures.behind
+      c.snapshot.ensures.laid,
+)
 
 pub repeat-shape_of-out : goal.repeat-shape_of-out
 repeat-shape_of-out t c =
@@ -307,11 +303,10 @@ pub take-taken-requires : goal.take-taken-requires
 take-taken-requires t c = node_bytes c.requires.known
 
 pub take-statement-ran-requires : goal.take-statement-ran-requires
-take-statement-ran-requires t c =
-    (
-      omega (arith, c.decreases, take_below c.requires c.args.z c.ranges.z c.taken.ensures),
-      take_runnable c.requires c.args.z c.ranges.z c.taken.ensures,
-    )
+take-statement-ran-requires t c = (
+  omega (arith, c.decreases, take_below c.requires c.args.z c.ranges.z c.taken.ensures),
+  take_runnable c.requires c.args.z c.ranges.z c.taken.ensures,
+)
 
 pub take-shape_of-out-in_default : goal.take-shape_of-out-in_default
 take-shape_of-out-in_default t c = c.statement-ran.auto.out

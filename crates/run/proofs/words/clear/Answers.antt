@@ -1,7 +1,6 @@
 -- `run::words::clear` meets its contract. The loop's invariant: zeros stand from the place to i, and the buffer is as long as it was.
 -- Assumes nothing.
 use mathlib.Core.Path.{refl}
-use Prim.Native.Nat.{◌-◌}
 use native.Mathlib.Omega.{arith}
 use lib.ListN.{length-set}
 use Rattle.run.specs.Laws.Laying.{cleared_none, cleared_more, cleared_all}

@@ -1,7 +1,6 @@
 -- `run::words::lay_slice` meets its contract. The loop's invariant: the first i words are laid.
 -- Assumes nothing.
 use mathlib.Core.Path.{refl}
-use Prim.Native.Nat.{◌-◌}
 use native.Mathlib.Omega.{arith}
 use lib.IntN.{pos}
 use borrow.Author.Rules.{rules}

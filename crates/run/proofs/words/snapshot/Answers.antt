@@ -1,6 +1,6 @@
 -- `run::words::snapshot` meets its contract. The loop's invariant: the first i words of the snapshot are laid; the variable that a
 -- turn reads is the list's, so the word that it lays is the snapshot's next. Assumes nothing.
-use Prim.Native.Nat.{◌<◌, ◌-◌, ◌*◌}
+use Prim.Native.Nat.{◌<◌, ◌*◌}
 use native.Mathlib.Omega.{arith}
 use lib.ListN.{get_or}
 use borrow.Author.Rules.{rules}

@@ -1,7 +1,7 @@
 -- `run::words::snapshot` meets its contract. The loop's invariant: the first i words of the snapshot are laid; the variable that a
 -- turn reads is the list's, so the word that it lays is the snapshot's next. Assumes nothing.
 use Prim.Native.Nat.{◌≤◌, ◌-◌}
-use Rattle.rules.specs.Value.{at, snapshot}
+use Rattle.rules.specs.Value.{snapshot}
 use Rattle.table.specs.Lists.{list_at}
 use Rattle.run.specs.Laws.Laying.{Laid}
 use Rattle.run.proofs.words.snapshot.Given as goal

@@ -1,8 +1,6 @@
 -- `table::check::header_fits` meets its contract: the tests are those of `check_header`, in groups, and all refuse for one reason.
 -- Assumes nothing.
-use mathlib.Core.Bool.{not}
-use mathlib.Core.Path.{sym, ◌∙◌, ap}
-use borrow.Author.Tests.{not-true, not-false}
+use mathlib.Core.Path.{sym, ◌∙◌}
 use Rattle.table.specs.Laws.Tests.{too_short, unmarked, sizes_wrong, offsets_wrong, length_decides}
 use Rattle.table.proofs.check.header_fits.Goals as goal
 

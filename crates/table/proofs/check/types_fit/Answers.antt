@@ -1,7 +1,6 @@
 -- `table::check::types_fit` meets its contract. The loop's invariant: the check of all types is that of those from `i` on.
 -- Assumes nothing.
 use mathlib.Core.Path.{refl}
-use Prim.Native.Nat.{◌-◌}
 use native.Mathlib.Omega.{arith}
 use Rattle.table.specs.Laws.Types.{type_right, type_wrong_lem, types_right}
 use Rattle.table.proofs.check.types_fit.Goals as goal

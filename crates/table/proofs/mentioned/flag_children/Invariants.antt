@@ -1,7 +1,7 @@
 -- `table::mentioned::flag_children` meets its contract. The loop's invariant: the flags of the children from `left` on are set.
 -- Assumes nothing.
 use mathlib.Core.Path.{◌≡◌}
-use Prim.Native.Nat.{◌-◌, ◌≤◌}
+use Prim.Native.Nat.{◌≤◌}
 use lib.ListN.{take, drop}
 use Rattle.rules.proofs.Laws.Rising.{flagged_by}
 use Rattle.rules.proofs.Laws.Variables.{fields}

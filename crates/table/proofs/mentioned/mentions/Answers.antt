@@ -1,12 +1,12 @@
 -- `table::mentioned::mentions` meets its contract. The loop's invariant: the nodes below n have their lists.
 -- Assumes nothing.
 use mathlib.Core.Path.{◌≡◌, refl, ap, ◌∙◌, subst}
-use Prim.Native.Nat.{ℕ, ◌-◌, ◌<◌}
+use Prim.Native.Nat.{ℕ, ◌<◌}
 use native.Mathlib.Omega.{arith}
 use borrow.Author.Rules.{rules}
 use lib.ListN.{length, take}
 use Rattle.rules.specs.Table.{variables, nodes}
-use Rattle.rules.proofs.Laws.Header.{Sized, sized}
+use Rattle.rules.proofs.Laws.Header.{sized}
 use Rattle.rules.proofs.Laws.Rising.{rising}
 use Rattle.table.specs.Rows.{laid}
 use Rattle.table.specs.Listing.{Made, made_next, lists_all}

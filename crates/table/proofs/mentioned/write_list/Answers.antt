@@ -2,7 +2,7 @@
 -- stand behind the row's first byte, and there are `count` of them.
 -- Assumes nothing.
 use mathlib.Core.Path.{◌≡◌}
-use Prim.Native.Nat.{◌-◌, ◌≤◌}
+use Prim.Native.Nat.{◌≤◌}
 use native.Mathlib.Omega.{arith}
 use borrow.Author.Rules.{rules}
 use lib.ListN.{length}
@@ -24,7 +24,7 @@ loop-v-preserved c =
     let l = c.loop-v in
     let h = c.loop-v-test.true in
     elim c.if-flags-v.branch [
-      then-flags-v w ↦ rw (w.lists-is, w.count-is) (laying_set a.lists.now a.n a.flags a.bound enough l.lists l.count l.v l.invariant h w.if-flags-v.true)
+      | then-flags-v w ↦ rw (w.lists-is, w.count-is) (laying_set a.lists.now a.n a.flags a.bound enough l.lists l.count l.v l.invariant h w.if-flags-v.true)
       | else-flags-v w ↦ rw (w.lists-is, w.count-is) (laying_pass a.lists.now a.n a.flags a.bound enough l.lists l.count l.v l.invariant h w.if-flags-v.false)
     ]
 

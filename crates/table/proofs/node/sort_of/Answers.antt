@@ -1,9 +1,7 @@
 -- `table::node::sort_of` meets its contract: the first test that fails makes the sort 3, as in `sort_by`. A tag that fits has its type byte
 -- in the table.
 -- Assumes nothing.
-use mathlib.Core.Bool.{not}
-use mathlib.Core.Path.{sym, ◌∙◌, ap}
-use borrow.Author.Tests.{not-true, not-false}
+use mathlib.Core.Path.{sym, ◌∙◌}
 use Rattle.table.specs.Laws.Sorts.{tag_wrong, first_wrong, second_wrong, third_wrong, none_wrong, tag_low}
 use Rattle.table.proofs.node.sort_of.Goals as goal
 
