@@ -3,7 +3,6 @@
 use mathlib.Core.Path.{◌≡◌, ap, ◌∙◌}
 use native.Mathlib.Omega.{arith}
 use lib.IntN.{nat_abs}
-use borrow.Author.Tests.{not-true, not-false}
 use borrow.Author.Rules.{rules}
 use Rattle.rules.specs.Value.{at, padded, fit}
 use Rattle.rules.specs.Table.{variables, types_of}
@@ -13,17 +12,6 @@ use Rattle.patch.proofs.Inputs.{types_inside}
 use Rattle.patch.proofs.Rooting.{cast_back, limited}
 use Rattle.patch.proofs.Finishing.{table_sized, room, few, ins, outs, inputs_summed, outputs_summed, inputs_made, outputs_made, outputs_front, outputs_long, outputs_refused, room_refused, completable, completed}
 use Rattle.patch.proofs.call.finish.Goals as goal
-
-inputs_are : (c : tie.After-sums) (h : Asked (start (count c))) → c.sums.result.values ≡ padded (ins h)
-inputs_are c h = inputs_made h (counted (count c)) c.sums.ensures
-
-outputs_are : (c : tie.After-sums2) (h : Asked (start (count (inputs c)))) → c.sums2.result.values ≡ padded (outs h)
-outputs_are c h = outputs_made h (counted (count (inputs c))) c.sums2.ensures
-
-answer : (c : tie.After-fits2) (h : Asked (first c)) → c.fits2.result ≡ fit (types_of (first c).args.t.now) (outs h)
-answer c h =
-    let o = outputs c in
-    c.fits2.ensures ∙ ap (fit (types_of (first c).args.t.now)) (outputs_front h (counted (count (inputs o))) (outputs_are o h))
 
 pub pair-v-requires : goal.pair-v-requires
 pair-v-requires c = omega (arith, (table_sized c.requires).whole)
@@ -50,19 +38,29 @@ sums-outputs-requires c =
 
 pub slice_bounds-fits-end : goal.slice_bounds-fits-end
 slice_bounds-fits-end c =
-    let counted : c.pair-v.result ≡ variables c.args.t.now = count_is c.args.t.now c.pair-v.ensures.0 in
     let h = c.requires in
-    omega (arith, few h, counted, outputs_long h (outputs_are c h))
+    let counted : c.pair-v.result ≡ variables c.args.t.now = count_is c.args.t.now c.pair-v.ensures.0 in
+    let outputs : c.sums-outputs.result.values ≡ padded (outs h) = outputs_made h counted c.sums-outputs.ensures in
+    omega (arith, few h, counted, outputs_long h outputs)
 
 pub fits-requires : goal.fits-requires
 fits-requires c = types_inside (table_sized c.requires)
 
 pub returns-then-not-fits : goal.returns-then-not-fits
-returns-then-not-fits c = λ h. outputs_refused h (answer c h) c.refuse.result _ c.if-not-fits.true c.refuse.ensures
+returns-then-not-fits c =
+    λ h.
+    let counted : c.pair-v.result ≡ variables c.args.t.now = count_is c.args.t.now c.pair-v.ensures.0 in
+    let outputs : c.sums-outputs.result.values ≡ padded (outs h) = outputs_made h counted c.sums-outputs.ensures in
+    let answer : c.fits.result ≡ fit (types_of c.args.t.now) (outs h) = c.fits.ensures ∙ ap (fit (types_of c.args.t.now)) (outputs_front h counted outputs) in
+    outputs_refused h answer c.refuse.result _ c.if-not-fits.true c.refuse.ensures
 
 pub returns-then-out-reached : goal.returns-then-out-reached
 returns-then-out-reached c =
-    λ h. room_refused h (answer c h) c.refuse-then-out-reached.result _ c.if-not-fits.false
+    λ h.
+    let counted : c.pair-v.result ≡ variables c.args.t.now = count_is c.args.t.now c.pair-v.ensures.0 in
+    let outputs : c.sums-outputs.result.values ≡ padded (outs h) = outputs_made h counted c.sums-outputs.ensures in
+    let answer : c.fits.result ≡ fit (types_of c.args.t.now) (outs h) = c.fits.ensures ∙ ap (fit (types_of c.args.t.now)) (outputs_front h counted outputs) in
+    room_refused h answer c.refuse-then-out-reached.result _ c.if-not-fits.false
     c.if-out-reached.true c.refuse-then-out-reached.ensures
 
 pub bounds-old-1 : goal.bounds-old-1
@@ -72,16 +70,23 @@ pub limit_of-requires : goal.limit_of-requires
 limit_of-requires c = between_back _ _ _ (search rules) ∙ limited c.requires.rooted.start
 
 pub complete-requires : goal.complete-requires
+unfolding limit_of
 complete-requires c =
+    let h = c.requires in
     let counted : c.pair-v.result ≡ variables c.args.t.now = count_is c.args.t.now c.pair-v.ensures.0 in
     let limit : c.limit_of.result ≡ nat_abs (limit_of c.args.old.now) = c.limit_of.ensures ∙ cast_back (at c.args.old.now 1) (search rules) in
-    let h = c.requires in
-    completable h c.sums-inputs.result c.sums-outputs.result counted limit (inputs_are c h) (outputs_are c h) c.if-out-reached.false
+    let inputs : c.sums-inputs.result.values ≡ padded (ins h) = inputs_made h counted c.sums-inputs.ensures in
+    let outputs : c.sums-outputs.result.values ≡ padded (outs h) = outputs_made h counted c.sums-outputs.ensures in
+    completable h c.sums-inputs.result c.sums-outputs.result counted limit inputs outputs c.if-out-reached.false
 
 pub returns : goal.returns
+unfolding limit_of
 returns c =
+    λ h.
     let counted : c.pair-v.result ≡ variables c.args.t.now = count_is c.args.t.now c.pair-v.ensures.0 in
     let limit : c.limit_of.result ≡ nat_abs (limit_of c.args.old.now) = c.limit_of.ensures ∙ cast_back (at c.args.old.now 1) (search rules) in
-    λ h.
-    completed h c.sums-inputs.result c.sums-outputs.result counted limit (inputs_are c h) (outputs_are c h) c.if-out-reached.false
-    (answer c h) c.if-not-fits.false c.complete.result _ c.complete.ensures
+    let inputs : c.sums-inputs.result.values ≡ padded (ins h) = inputs_made h counted c.sums-inputs.ensures in
+    let outputs : c.sums-outputs.result.values ≡ padded (outs h) = outputs_made h counted c.sums-outputs.ensures in
+    let answer : c.fits.result ≡ fit (types_of c.args.t.now) (outs h) = c.fits.ensures ∙ ap (fit (types_of c.args.t.now)) (outputs_front h counted outputs) in
+    completed h c.sums-inputs.result c.sums-outputs.result counted limit inputs outputs c.if-out-reached.false
+    answer c.if-not-fits.false c.complete.result _ c.complete.ensures

@@ -39,6 +39,7 @@ pub overflow_cast-old : goal.overflow_cast-old
 overflow_cast-old c = size_fits c.requires.start (search rules) (omega arith)
 
 pub visit-requires : goal.visit-requires
+unfolding limit_of nodes length_of
 visit-requires c =
     let count : c.pair-v.result ≡ variables c.args.t.now = count_is c.args.t.now c.pair-v.ensures.0 in
     let left : c.limit_of.result ≡ nat_abs (limit_of c.args.old.now) = c.limit_of.ensures ∙ cast_back (at c.args.old.now 1) (search rules) in
@@ -49,6 +50,7 @@ visit-requires c =
     c.mentions-listed.result.lists c.mentions-listed.ensures (omega arith)
 
 pub returns : goal.returns
+unfolding limit_of nodes length_of
 returns c =
     let count : c.pair-v.result ≡ variables c.args.t.now = count_is c.args.t.now c.pair-v.ensures.0 in
     let left : c.limit_of.result ≡ nat_abs (limit_of c.args.old.now) = c.limit_of.ensures ∙ cast_back (at c.args.old.now 1) (search rules) in

@@ -11,7 +11,6 @@ use Rattle.rules.specs.Call.{inputs_of}
 use lib.Dec.{leb}
 use mir.Syntax.{w64}
 use mir.ValLaws.{to_z-of_z, to_z_pos}
-use borrow.Author.Tests.{not-true, not-false}
 use Rattle.numbers.specs.Signed.{between}
 use Rattle.rules.specs.Value.{at, fit}
 use Rattle.rules.specs.Table.{variables, types_of}
@@ -78,7 +77,7 @@ returns-then-not-fits c =
     let limited : true ≡ between (pos 1) most_steps (at old 1) = sym c.if-not-in_limits.false ∙ limits in
     let steps : c.within-2.result ≡ between (pos 1) (at old 1) (at old 2) = c.within-2.ensures ∙ between_as refl (to_z-of_z w64 _ (search rules)) (to_z-of_z w64 _ (search rules)) in
     let stepped : true ≡ between (pos 1) (at old 1) (at old 2) = sym c.if-not-within-2.false ∙ steps in
-    let inputs : c.fits-2.result ≡ fit (types_of bytes) (inputs_of (types_of bytes) old) = c.fits-2.ensures ∙ ap (fit (types_of bytes)) (inputs_are c.requires old count) in
+    let inputs : c.fits.result ≡ fit (types_of bytes) (inputs_of (types_of bytes) old) = c.fits.ensures ∙ ap (fit (types_of bytes)) (inputs_are c.requires old count) in
     header_by c.requires old true true true true false _ longs sized limited stepped
     (sym c.if-not-fits.true ∙ inputs) refl
 
@@ -97,7 +96,7 @@ returns c =
     let limited : true ≡ between (pos 1) most_steps (at old 1) = sym c.if-not-in_limits.false ∙ limits in
     let steps : c.within-2.result ≡ between (pos 1) (at old 1) (at old 2) = c.within-2.ensures ∙ between_as refl (to_z-of_z w64 _ (search rules)) (to_z-of_z w64 _ (search rules)) in
     let stepped : true ≡ between (pos 1) (at old 1) (at old 2) = sym c.if-not-within-2.false ∙ steps in
-    let inputs : c.fits-2.result ≡ fit (types_of bytes) (inputs_of (types_of bytes) old) = c.fits-2.ensures ∙ ap (fit (types_of bytes)) (inputs_are c.requires old count) in
-    header_by c.requires old true true true true true c.fits3.result longs sized limited stepped
+    let inputs : c.fits.result ≡ fit (types_of bytes) (inputs_of (types_of bytes) old) = c.fits.ensures ∙ ap (fit (types_of bytes)) (inputs_are c.requires old count) in
+    header_by c.requires old true true true true true c.fits-2.result longs sized limited stepped
     (sym c.if-not-fits.false ∙ inputs)
-    (c.fits3.ensures ∙ ap (fit (types_of bytes)) (outputs_are c.requires old count))
+    (c.fits-2.ensures ∙ ap (fit (types_of bytes)) (outputs_are c.requires old count))

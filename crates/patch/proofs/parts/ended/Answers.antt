@@ -30,13 +30,13 @@ returns-then-reached-end c =
 
 pub grown-requires : goal.grown-requires
 grown-requires c =
-    (subst (λ (n : ℕ). Endable c.args.t.now c.args.base c.args.lists.now c.args.node c.args.body c.args.last c.args.old.now n c.args.reached) (sym c.if-reached-end.left) c.requires, omega arith)
+    (subst (λ (n : ℕ). Endable c.args.t.now c.args.base c.args.lists.now c.args.node c.args.body c.args.last c.args.old.now n c.args.reached) (sym c.if-reached-end.false) c.requires, omega arith)
 
 pub returns-then-was-next : goal.returns-then-was-next
 returns-then-was-next c =
-    ended_grown c.requires (c.args.was - c.args.next) (c.args.next - c.args.was) (omega arith) c.if-reached-end.left c.grown.result
+    ended_grown c.requires (c.args.was - c.args.next) (c.args.next - c.args.was) (omega arith) c.if-reached-end.false c.grown.result
     c.args.out.now _ c.grown.ensures
 
 pub returns : goal.returns
 returns c =
-    ended_same c.requires (c.args.was - c.args.next) (c.args.next - c.args.was) (omega arith) (omega arith) c.if-reached-end.left c.args.out.now
+    ended_same c.requires (c.args.was - c.args.next) (c.args.next - c.args.was) (omega arith) (omega arith) c.if-reached-end.false c.args.out.now

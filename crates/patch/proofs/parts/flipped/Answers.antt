@@ -24,10 +24,10 @@ bounds-old-from c =
     omega (arith, room.1)
 
 pub overflow_mul-node : goal.overflow_mul-node
-overflow_mul-node c = omega (arith, c.good, node_bytes c.requires.0.entered.known)
+overflow_mul-node c = omega (arith, node_bytes c.requires.0.entered.known)
 
 pub overflow_add-base : goal.overflow_add-base
-overflow_add-base c = omega (arith, c.good, node_bytes c.requires.0.entered.known)
+overflow_add-base c = omega (arith, node_bytes c.requires.0.entered.known)
 
 pub overflow_sub-condition : goal.overflow_sub-condition
 overflow_sub-condition c = turned_fits c.requires.0
@@ -66,12 +66,12 @@ plus-requires c = flip_passed c.requires.0 c.args.change c.requires.1
 pub overflow_add-from-in-Accepted : goal.overflow_add-from-in-Accepted
 overflow_add-from-in-Accepted c =
     let room : let s = c.args in (s.reached.at + 1 + 2 * c.width-w.result + s.length ≤ farthest) × (s.reached.from + 1 + 2 * c.width-w.result + s.length ≤ length s.old.now) = flip_room c.requires.0 c.width-w.ensures.0 in
-    omega (arith, c.good, room.1)
+    omega (arith, room.1)
 
 pub overflow_add-from-in-Accepted-2 : goal.overflow_add-from-in-Accepted-2
 overflow_add-from-in-Accepted-2 c =
     let room : let s = c.args in (s.reached.at + 1 + 2 * c.width-w.result + s.length ≤ farthest) × (s.reached.from + 1 + 2 * c.width-w.result + s.length ≤ length s.old.now) = flip_room c.requires.0 c.width-w.ensures.0 in
-    omega (arith, c.good, room.1)
+    omega (arith, room.1)
 
 pub freshened-requires : goal.freshened-requires
 freshened-requires c =
@@ -89,7 +89,7 @@ pub returns-in-Accepted : goal.returns-in-Accepted
 returns-in-Accepted c =
     let after : List ℤ = c.statement-ran.new.out in
     flip_answer c.requires.0 c.started-store.ensures (turned c.requires.0 c.taken-other.ensures) c.statement-ran.result c.args.out.now after _
-    c.statement-ran.ensures c.in-Accepted.is c.width-w.ensures.0 refl c.args.change c.snapshot.last.1.1.1.0 _
+    c.statement-ran.ensures c.in-Accepted.is c.width-w.ensures.0 refl c.args.change c.snapshot.new.out _
     c.snapshot.ensures.laid
     _ (flip_word c.requires.0 c.args.change c.plus.result c.requires.1 c.plus.ensures) c.put.ensures c.freshened.result
     c.freshened.ensures

@@ -3,7 +3,6 @@
 use mathlib.Core.Path.{refl}
 use Prim.Native.Nat.{◌-◌, ◌≤◌}
 use native.Mathlib.Omega.{arith}
-use borrow.Author.Tests.{not-true, not-false}
 use Rattle.patch.proofs.Nodes.{row_known}
 use Rattle.patch.proofs.Fresh.{store_near, from_last}
 use Rattle.patch.proofs.Shrinking.{shrunk_short, shrunk_broken, tail_standing, shrunk_answer}
@@ -26,7 +25,7 @@ settled-next-requires c =
     let room : c.width-w.result ≤ c.args.end - c.args.reached.from = omega arith in
     (
       tail_standing c.requires c.width-w.ensures.0 room c.snapshot_fits.result c.snapshot_fits.ensures
-          (not-false _ c.if-not-snapshot_fits.left),
+          c.if-not-snapshot_fits.false,
       store_near (from_last c.requires.lastly c.started-store.ensures),
     )
 
@@ -34,6 +33,6 @@ pub returns : goal.returns
 returns c =
     let room : c.width-w.result ≤ c.args.end - c.args.reached.from = omega arith in
     shrunk_answer c.requires c.width-w.ensures.0 room c.snapshot_fits.result c.snapshot_fits.ensures
-    (not-false _ c.if-not-snapshot_fits.left)
+    c.if-not-snapshot_fits.false
     c.started-store.ensures _
     (record { outcome = refl; changes = c.settled-next.ensures; left = refl; walked = refl; reused = refl; from = refl; at = refl })

@@ -28,7 +28,7 @@ use Rattle.rules.specs.Table.{types_of}
 use Rattle.run.specs.Laws.Taken.{taken_node}
 use borrow.Author.Tests.{not-true, not-false}
 use Rattle.pieces.specs.Snapshot.{Standing, MovedAs, olds}
-use Rattle.patch.proofs.Branches.{forked_at, fork_inside, branch_below, kept_visitable, kept_refused, kept_broken, kept_answer}
+use Rattle.patch.proofs.Branches.{forked_at, fork_inside, branch_below, kept_visitable, kept_refused, kept_near as visited_near, kept_broken, kept_answer}
 use Rattle.patch.proofs.Looped.{looped_refused, looped_counted, looped_answer}
 use Rattle.patch.proofs.Kinded.{enter, last_is_repeat}
 use Rattle.patch.proofs.Pays.{pay_dry, pay_steppable, pay_inner, pay_refused, pay_place, pay_left, pay_openable, pay_answer}
@@ -123,11 +123,11 @@ iterate-turns-gone-requires t c =
     let wide : c.width-w.result ≡ length (list_at c.args.lists.now c.args.node) = c.width-w.ensures.0 in
     let step : let s = c.args in AdvancedBy (1 + length (list_at s.lists.now s.node) + s.length) s.reached c.advanced.result = subst (λ (n : ℕ). AdvancedBy (1 + n + c.args.length) c.args.reached c.advanced.result) wide c.advanced.ensures in
     let h = c.requires in
-    (omega (arith, h.0, body_below h.1 body), turns_turnable h.1 step body)
+    (omega (arith, c.decreases, body_below h body), turns_turnable h step body)
 
 pub iterate-shape_of-out-in_default : goal.iterate-shape_of-out-in_default
 iterate-shape_of-out-in_default t c =
-    let turns_long : length c.turns-gone.last.1.1.1.1.1.1.1.1.1.0 ≡ length c.args.out.now = c.turns-gone.auto.out in
+    let turns_long : length c.turns-gone.new.out ≡ length c.args.out.now = c.turns-gone.auto.out in
     turns_long
 
 pub iterate-returns-in_default : goal.iterate-returns-in_default
@@ -171,8 +171,8 @@ iterate-ended-requires t c =
 
 pub iterate-shape_of-out : goal.iterate-shape_of-out
 iterate-shape_of-out t c =
-    let turns_long : length c.turns-gone.last.1.1.1.1.1.1.1.1.1.0 ≡ length c.args.out.now = c.turns-gone.auto.out in
-    let put_long : length c.put.last.0 ≡ length c.args.out.now = c.put.auto.out ∙ turns_long in
+    let turns_long : length c.turns-gone.new.out ≡ length c.args.out.now = c.turns-gone.auto.out in
+    let put_long : length c.put.new.out ≡ length c.args.out.now = c.put.auto.out ∙ turns_long in
     c.ended.auto.out ∙ put_long
 
 pub iterate-returns : goal.iterate-returns
@@ -185,10 +185,10 @@ iterate-returns t c =
     let stay : c.least-stay.result ≡ min (count_of c.requires.count.head.word) (count_of c.requires.count.count.change) = c.least-stay.ensures ∙ ap₂ {C = ℕ} min was next in
     let last : let s = c.args in c.last_of.result ≡ last_of c.least-stay.result (s.reached.from + 1) c.turns-gone.result.from (length (list_at s.lists.now s.node)) = c.last_of.ensures ∙ ap (last_of c.least-stay.result (c.args.reached.from + 1) c.turns-gone.result.from) wide in
     iterate_answer c.requires step body stay c.turns-gone.result _ _ c.turns-gone.ensures c.in-Accepted.is last
-    c.ended.result c.put.last.0 _
-    (c.put.ensures ∙ ap (set c.turns-gone.last.1.1.1.1.1.1.1.1.1.0 c.args.reached.at) (to_z-of_z w64 _ c.ranges.new))
-    (subst (λ (n : ℕ). EndsTo c.args.t.now c.args.lists.now c.args.node c.child_b-body.result (count_of c.requires.count.head.word - n) (n - count_of c.requires.count.head.word) c.last_of.result c.args.old.now c.args.end c.turns-gone.result c.ended.result c.put.last.0 c.ended.last.1.1.1.1.1.1.1.1.1.1.1.0) next
-    (subst (λ (n : ℕ). EndsTo c.args.t.now c.args.lists.now c.args.node c.child_b-body.result (n - c.times-next.result) (c.times-next.result - n) c.last_of.result c.args.old.now c.args.end c.turns-gone.result c.ended.result c.put.last.0 c.ended.last.1.1.1.1.1.1.1.1.1.1.1.0) was c.ended.ensures))
+    c.ended.result c.put.new.out _
+    (c.put.ensures ∙ ap (set c.turns-gone.new.out c.args.reached.at) (to_z-of_z w64 _ c.ranges.new))
+    (subst (λ (n : ℕ). EndsTo c.args.t.now c.args.lists.now c.args.node c.child_b-body.result (count_of c.requires.count.head.word - n) (n - count_of c.requires.count.head.word) c.last_of.result c.args.old.now c.args.end c.turns-gone.result c.ended.result c.put.new.out c.ended.new.out) next
+    (subst (λ (n : ℕ). EndsTo c.args.t.now c.args.lists.now c.args.node c.child_b-body.result (n - c.times-next.result) (c.times-next.result - n) c.last_of.result c.args.old.now c.args.end c.turns-gone.result c.ended.result c.put.new.out c.ended.new.out) was c.ended.ensures))
 
 -- ======== 
 -- `kept` in the cycle: the branch that the condition takes is visited, the snapshot after takes its changes, and the condition stays.
@@ -238,7 +238,7 @@ kept-visit-gone-requires t c =
     let wide : c.width-w.result ≡ length (list_at c.args.lists.now c.args.node) = c.width-w.ensures.0 in
     let step : let s = c.args in AdvancedBy (1 + 2 * length (list_at s.lists.now s.node) + s.length) s.reached c.advanced.result = subst (λ (n : ℕ). AdvancedBy (1 + 2 * n + c.args.length) c.args.reached c.advanced.result) wide c.advanced.ensures in
     let h = c.requires in
-    (omega (arith, h.0, same, branch_below h.1 (holds h.1.fork.condition)), kept_visitable h.1 step same)
+    (omega (arith, c.decreases, same, branch_below h (holds h.fork.condition)), kept_visitable h step same)
 
 pub kept-shape_of-out-in_default : goal.kept-shape_of-out-in_default
 kept-shape_of-out-in_default t c = c.visit-gone.auto.out
@@ -288,7 +288,7 @@ kept-move_snapshot-requires t c =
     let same : c.taken-same.result ≡ taken_node c.args.t.now c.args.node (holds c.requires.fork.condition) = let k = c.requires.entered.known in c.taken-same.ensures ∙ ap₂ {C = ℕ} (λ (x y : ℕ). choose (holds (to_z w64 (of_z w64 (at c.args.old.now c.args.reached.from)))) x y) (read_node_lem k (λ n. n.b) refl) (read_node_lem k (λ n. n.c) refl) ∙ ap (λ (z : ℤ). taken_node c.args.t.now c.args.node (holds z)) (word ∙ sym (forked_at c.requires).condition) in
     let inside : c.args.reached.from + (1 + 2 * c.width-w.result + c.args.length) ≤ length c.args.old.now = omega (arith, wide, fork_inside c.requires, c.requires.entered.sound.inside.ends) in
     let near : c.args.reached.at + (1 + 2 * c.width-w.result + c.args.length) ≤ farthest = omega (arith, inside, c.requires.entered.sound.place) in
-    (standing, (kept_near c.requires step same c.visit-gone.result _ _ c.visit-gone.ensures c.in-Accepted.is, omega (arith, near)))
+    (standing, (visited_near c.requires step same c.visit-gone.result _ _ c.visit-gone.ensures c.in-Accepted.is, omega (arith, near)))
 
 pub kept-shape_of-out-then-not-move_snapshot : goal.kept-shape_of-out-then-not-move_snapshot
 kept-shape_of-out-then-not-move_snapshot t c = c.move_snapshot.auto.out ∙ c.visit-gone.auto.out
@@ -299,7 +299,7 @@ kept-returns-then-not-move_snapshot t c =
     let step : let s = c.args in AdvancedBy (1 + 2 * length (list_at s.lists.now s.node) + s.length) s.reached c.advanced.result = subst (λ (n : ℕ). AdvancedBy (1 + 2 * n + c.args.length) c.args.reached c.advanced.result) wide c.advanced.ensures in
     let word : to_z w64 (of_z w64 (at c.args.old.now c.args.reached.from)) ≡ at c.args.old.now c.args.reached.from = to_z-of_z w64 _ (search rules) in
     let same : c.taken-same.result ≡ taken_node c.args.t.now c.args.node (holds c.requires.fork.condition) = let k = c.requires.entered.known in c.taken-same.ensures ∙ ap₂ {C = ℕ} (λ (x y : ℕ). choose (holds (to_z w64 (of_z w64 (at c.args.old.now c.args.reached.from)))) x y) (read_node_lem k (λ n. n.b) refl) (read_node_lem k (λ n. n.c) refl) ∙ ap (λ (z : ℤ). taken_node c.args.t.now c.args.node (holds z)) (word ∙ sym (forked_at c.requires).condition) in
-    let MovesAt : ℕ → Type 0 = λ n. let vs = list_at c.args.lists.now c.args.node in MovedAs (moved_all (types_of c.args.t.now) vs (olds c.args.old.now (c.args.reached.from + 1 + n) vs) c.visit-gone.result.changes.values) c.move_snapshot.result c.visit-gone.last.1.1.1.1.1.1.1.1.0 (c.args.reached.at + 1 + n) c.move_snapshot.new.out in
+    let MovesAt : ℕ → Type 0 = λ n. let vs = list_at c.args.lists.now c.args.node in MovedAs (moved_all (types_of c.args.t.now) vs (olds c.args.old.now (c.args.reached.from + 1 + n) vs) c.visit-gone.result.changes.values) c.move_snapshot.result c.visit-gone.new.out (c.args.reached.at + 1 + n) c.move_snapshot.new.out in
     let moves : MovesAt (length (list_at c.args.lists.now c.args.node)) = subst MovesAt wide c.move_snapshot.ensures in
     kept_broken c.requires step same c.visit-gone.result _ _ c.visit-gone.ensures c.in-Accepted.is
     c.move_snapshot.result _ moves c.if-not-move_snapshot.true c.stopped.result c.stopped.ensures _
@@ -313,7 +313,7 @@ kept-returns t c =
     let step : let s = c.args in AdvancedBy (1 + 2 * length (list_at s.lists.now s.node) + s.length) s.reached c.advanced.result = subst (λ (n : ℕ). AdvancedBy (1 + 2 * n + c.args.length) c.args.reached c.advanced.result) wide c.advanced.ensures in
     let word : to_z w64 (of_z w64 (at c.args.old.now c.args.reached.from)) ≡ at c.args.old.now c.args.reached.from = to_z-of_z w64 _ (search rules) in
     let same : c.taken-same.result ≡ taken_node c.args.t.now c.args.node (holds c.requires.fork.condition) = let k = c.requires.entered.known in c.taken-same.ensures ∙ ap₂ {C = ℕ} (λ (x y : ℕ). choose (holds (to_z w64 (of_z w64 (at c.args.old.now c.args.reached.from)))) x y) (read_node_lem k (λ n. n.b) refl) (read_node_lem k (λ n. n.c) refl) ∙ ap (λ (z : ℤ). taken_node c.args.t.now c.args.node (holds z)) (word ∙ sym (forked_at c.requires).condition) in
-    let MovesAt : ℕ → Type 0 = λ n. let vs = list_at c.args.lists.now c.args.node in MovedAs (moved_all (types_of c.args.t.now) vs (olds c.args.old.now (c.args.reached.from + 1 + n) vs) c.visit-gone.result.changes.values) c.move_snapshot.result c.visit-gone.last.1.1.1.1.1.1.1.1.0 (c.args.reached.at + 1 + n) c.move_snapshot.new.out in
+    let MovesAt : ℕ → Type 0 = λ n. let vs = list_at c.args.lists.now c.args.node in MovedAs (moved_all (types_of c.args.t.now) vs (olds c.args.old.now (c.args.reached.from + 1 + n) vs) c.visit-gone.result.changes.values) c.move_snapshot.result c.visit-gone.new.out (c.args.reached.at + 1 + n) c.move_snapshot.new.out in
     let moves : MovesAt (length (list_at c.args.lists.now c.args.node)) = subst MovesAt wide c.move_snapshot.ensures in
     kept_answer c.requires step same c.visit-gone.result _ _ c.visit-gone.ensures c.in-Accepted.is
     c.move_snapshot.result _ moves c.if-not-move_snapshot.false c.put.new.out
@@ -372,7 +372,7 @@ parts-returns-then-k-eq17 t c = c.assign.ensures
 pub parts-sequence-requires : goal.parts-sequence-requires
 parts-sequence-requires t c =
     let h = c.requires in
-    (omega (arith, h.0), enter h.1 (read_kind h.1.known c.kind-k.ensures c.if-k-eq18.true))
+    (omega (arith, c.decreases), enter h (read_kind h.known c.kind-k.ensures c.if-k-eq18.true))
 
 pub parts-shape_of-out-then-k-eq18 : goal.parts-shape_of-out-then-k-eq18
 parts-shape_of-out-then-k-eq18 t c = c.sequence.auto.out
@@ -383,7 +383,7 @@ parts-returns-then-k-eq18 t c = c.sequence.ensures
 pub parts-branch-t-requires : goal.parts-branch-t-requires
 parts-branch-t-requires t c =
     let h = c.requires in
-    (omega (arith, h.0), enter h.1 (read_kind h.1.known c.kind-k.ensures c.if-k-eq19.true))
+    (omega (arith, c.decreases), enter h (read_kind h.known c.kind-k.ensures c.if-k-eq19.true))
 
 pub parts-shape_of-out-then-k-eq19 : goal.parts-shape_of-out-then-k-eq19
 parts-shape_of-out-then-k-eq19 t c = c.branch-t.auto.out
@@ -394,9 +394,9 @@ parts-returns-then-k-eq19 t c = c.branch-t.ensures
 pub parts-looped-requires : goal.parts-looped-requires
 parts-looped-requires t c =
     let h = c.requires in
-    let n = h.1.known in
+    let n = h.known in
     let e₁ = c.kind-k.ensures in
-    (omega (arith, h.0), enter h.1 (last_is_repeat h.1 (no_kind n e₁ c.if-k-eq17.false) (no_kind n e₁ c.if-k-eq18.false) (no_kind n e₁ c.if-k-eq19.false)))
+    (omega (arith, c.decreases), enter h (last_is_repeat h (no_kind n e₁ c.if-k-eq17.false) (no_kind n e₁ c.if-k-eq18.false) (no_kind n e₁ c.if-k-eq19.false)))
 
 pub parts-shape_of-out : goal.parts-shape_of-out
 parts-shape_of-out t c = c.looped.auto.out
@@ -437,12 +437,12 @@ pay-open-requires t c =
     pay_openable c.requires c.stepped.ensures c.parts-inside.result c.args.out.now _ c.parts-inside.ensures c.in-Accepted.is
 
 pub pay-shape_of-out : goal.pay-shape_of-out
-pay-shape_of-out t c = c.«open».auto.0 ∙ c.parts-inside.auto.out
+pay-shape_of-out t c = c.«open».auto.out ∙ c.parts-inside.auto.out
 
 pub pay-returns : goal.pay-returns
 pay-returns t c =
     pay_answer c.requires c.stepped.ensures c.parts-inside.result c.args.out.now _ c.parts-inside.ensures c.in-Accepted.is
-    c.«open».new.0 c.«open».ensures
+    c.«open».new.out c.«open».ensures
 
 -- ======== 
 -- `sequence` in the cycle: the first entry, and the second from where the first ended.
@@ -461,7 +461,7 @@ pub sequence-visit-first-requires : goal.sequence-visit-first-requires
 sequence-visit-first-requires t c =
     let first : c.child_a.result ≡ (node_at c.args.t.now c.args.node).a = read_node_lem c.requires.known (λ n. n.a) c.child_a.ensures in
     let h = c.requires in
-    (omega (arith, h.0, first_below h.1 _ first), first_visitable h.1 _ first)
+    (omega (arith, c.decreases, first_below h _ first), first_visitable h _ first)
 
 pub sequence-shape_of-out-in_default : goal.sequence-shape_of-out-in_default
 sequence-shape_of-out-in_default t c = c.visit-first.auto.out

@@ -18,4 +18,4 @@ pub returns : goal.returns
 unfolding minus
 returns c =
     differ_kept c.args.new c.args.old c.ranges.new c.ranges.old c.differ.ensures
-    ∙ sym (ap (λ t. minus t c.args.new c.args.old) (truth_type c.args.kind c.if-kind-eq0.left))
+    ∙ sym (ap (λ t. minus t c.args.new c.args.old) (truth_type c.args.kind c.if-kind-eq0.false))

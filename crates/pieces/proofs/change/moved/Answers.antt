@@ -10,11 +10,11 @@ use Rattle.pieces.proofs.change.moved.Goals as goal
 pub returns-then-not-in_type : goal.returns-then-not-in_type
 returns-then-not-in_type c =
     moved_out c.args.old c.args.change c.requires.0 c.requires.1 (ty_of c.args.kind)
-    c.plus-new.result (word _ c.plus-new.type-inv) c.plus-new.ensures
+    c.plus-new.result (word _ c.plus-new.type_inv) c.plus-new.ensures
     (sym c.in_type.ensures ∙ c.if-not-in_type.true)
 
 pub returns : goal.returns
 returns c =
     moved_in c.args.old c.args.change c.requires.0 c.requires.1 (ty_of c.args.kind)
-    c.plus-new.result (word _ c.plus-new.type-inv) c.plus-new.ensures
+    c.plus-new.result (word _ c.plus-new.type_inv) c.plus-new.ensures
     (sym c.in_type.ensures ∙ c.if-not-in_type.false)

@@ -38,7 +38,7 @@ returns-then-size-end c =
     let size : ℤ = at c.args.old.now (c.args.from + 1) in
     let size_back : kept size ≡ size = to_z-of_z w64 size (search rules) in
     let left : ℕ = c.args.end - c.args.from in
-    let left_back : to_z w64 left ≡ pos left = to_z_pos w64 left (omega (arith, c.well-formed, c.requires.0)) in
+    let left_back : to_z w64 left ≡ pos left = to_z_pos w64 left (omega (arith, c.well_formed, c.requires.0)) in
     let s = c.args in
     too_long s.node s.last s.old.now s.from s.end c.requires.0 c.if-end-from-lt3.false size_back left_back c.if-size-end.true
 
@@ -47,7 +47,7 @@ overflow_cast-stop c =
     let size : ℤ = at c.args.old.now (c.args.from + 1) in
     let size_back : kept size ≡ size = to_z-of_z w64 size (search rules) in
     let left : ℕ = c.args.end - c.args.from in
-    let left_back : to_z w64 left ≡ pos left = to_z_pos w64 left (omega (arith, c.well-formed, c.requires.0)) in
+    let left_back : to_z w64 left ≡ pos left = to_z_pos w64 left (omega (arith, c.well_formed, c.requires.0)) in
     let sized : InSize size left = in_size size left size_back left_back c.if-size-lt3.false c.if-size-end.false in
     let count : nat_abs (kept size) ≡ nat_abs size = ap nat_abs size_back in
     (subst (λ (z : ℤ). T (non_neg z)) (sym (size_back ∙ sized.is)) tt, omega (arith, count, sized, c.ranges))
@@ -58,7 +58,7 @@ overflow_add-stop c =
     let size_back : kept size ≡ size = to_z-of_z w64 size (search rules) in
     let count : nat_abs (kept size) ≡ nat_abs size = ap nat_abs size_back in
     let left : ℕ = c.args.end - c.args.from in
-    let left_back : to_z w64 left ≡ pos left = to_z_pos w64 left (omega (arith, c.well-formed, c.requires.0)) in
+    let left_back : to_z w64 left ≡ pos left = to_z_pos w64 left (omega (arith, c.well_formed, c.requires.0)) in
     let sized : InSize size left = in_size size left size_back left_back c.if-size-lt3.false c.if-size-end.false in
     omega (arith, count, sized, c.ranges, c.requires)
 
@@ -68,7 +68,7 @@ ends-requires c =
     let size_back : kept size ≡ size = to_z-of_z w64 size (search rules) in
     let count : nat_abs (kept size) ≡ nat_abs size = ap nat_abs size_back in
     let left : ℕ = c.args.end - c.args.from in
-    let left_back : to_z w64 left ≡ pos left = to_z_pos w64 left (omega (arith, c.well-formed, c.requires.0)) in
+    let left_back : to_z w64 left ≡ pos left = to_z_pos w64 left (omega (arith, c.well_formed, c.requires.0)) in
     let sized : InSize size left = in_size size left size_back left_back c.if-size-lt3.false c.if-size-end.false in
     omega (arith, count, sized, c.requires)
 
@@ -77,7 +77,7 @@ returns-then-not-ends c =
     let size : ℤ = at c.args.old.now (c.args.from + 1) in
     let left : ℕ = c.args.end - c.args.from in
     let size_back : kept size ≡ size = to_z-of_z w64 size (search rules) in
-    let left_back : to_z w64 left ≡ pos left = to_z_pos w64 left (omega (arith, c.well-formed, c.requires.0)) in
+    let left_back : to_z w64 left ≡ pos left = to_z_pos w64 left (omega (arith, c.well_formed, c.requires.0)) in
     let sized : InSize size left = in_size size left size_back left_back c.if-size-lt3.false c.if-size-end.false in
     let count : nat_abs (kept size) ≡ nat_abs size = ap nat_abs size_back in
     let s = c.args in
@@ -89,7 +89,7 @@ returns-then-not-in_limits c =
     let size : ℤ = at c.args.old.now (c.args.from + 1) in
     let left : ℕ = c.args.end - c.args.from in
     let size_back : kept size ≡ size = to_z-of_z w64 size (search rules) in
-    let left_back : to_z w64 left ≡ pos left = to_z_pos w64 left (omega (arith, c.well-formed, c.requires.0)) in
+    let left_back : to_z w64 left ≡ pos left = to_z_pos w64 left (omega (arith, c.well_formed, c.requires.0)) in
     let sized : InSize size left = in_size size left size_back left_back c.if-size-lt3.false c.if-size-end.false in
     let steps : ℤ = at c.args.old.now (c.args.from + 2) in
     let steps_back : kept steps ≡ steps = to_z-of_z w64 steps (search rules) in
@@ -105,7 +105,7 @@ returns c =
     let size : ℤ = at c.args.old.now (c.args.from + 1) in
     let left : ℕ = c.args.end - c.args.from in
     let size_back : kept size ≡ size = to_z-of_z w64 size (search rules) in
-    let left_back : to_z w64 left ≡ pos left = to_z_pos w64 left (omega (arith, c.well-formed, c.requires.0)) in
+    let left_back : to_z w64 left ≡ pos left = to_z_pos w64 left (omega (arith, c.well_formed, c.requires.0)) in
     let sized : InSize size left = in_size size left size_back left_back c.if-size-lt3.false c.if-size-end.false in
     let here : at c.args.old.now c.args.from ≡ pos c.args.node = sym (to_z-of_z w64 _ (search rules)) ∙ ap (to_z w64) c.if-old-from.false ∙ to_z_pos w64 _ (omega (arith, c.requires)) in
     let count : nat_abs (kept size) ≡ nat_abs size = ap nat_abs size_back in

@@ -15,10 +15,10 @@ use Rattle.pieces.specs.Laws.Changes.{kept}
 use Rattle.pieces.proofs.expression.recall.Goals as goal
 
 pub returns-then-end-from : goal.returns-then-end-from
-returns-then-end-from c = recalls_short c.requires c.if-end-from.true o
+returns-then-end-from c o e = recalls_short c.requires c.if-end-from.true o
 
 pub returns-then-not-in_type : goal.returns-then-not-in_type
-returns-then-not-in_type c =
+returns-then-not-in_type c o e =
     let room : c.args.from + 2 ≤ c.args.end = omega arith in
     let x : ℤ = kept (at c.args.old.now c.args.from) in
     let is_x : x ≡ at c.args.old.now c.args.from = to_z-of_z w64 _ (search rules) in
@@ -28,7 +28,7 @@ returns-then-not-in_type c =
     (sym c.in_type.ensures ∙ c.if-not-in_type.true) o
 
 pub returns-then-not-in_type-2 : goal.returns-then-not-in_type-2
-returns-then-not-in_type-2 c =
+returns-then-not-in_type-2 c o e =
     let room : c.args.from + 2 ≤ c.args.end = omega arith in
     let x : ℤ = kept (at c.args.old.now c.args.from) in
     let is_x : x ≡ at c.args.old.now c.args.from = to_z-of_z w64 _ (search rules) in
@@ -47,7 +47,7 @@ compute-result-requires c =
     (number_x, number_y)
 
 pub returns-in_default : goal.returns-in_default
-returns-in_default c =
+returns-in_default c o e =
     let room : c.args.from + 2 ≤ c.args.end = omega arith in
     let x : ℤ = kept (at c.args.old.now c.args.from) in
     let is_x : x ≡ at c.args.old.now c.args.from = to_z-of_z w64 _ (search rules) in
@@ -59,7 +59,7 @@ returns-in_default c =
     o (c.compute-result.ensures o e) c.in_default.is
 
 pub returns : goal.returns
-returns c =
+returns c o e =
     let room : c.args.from + 2 ≤ c.args.end = omega arith in
     let x : ℤ = kept (at c.args.old.now c.args.from) in
     let is_x : x ≡ at c.args.old.now c.args.from = to_z-of_z w64 _ (search rules) in

@@ -16,34 +16,34 @@ use Rattle.pieces.proofs.Recalling.{computed_near, settled_out, settled_in}
 use Rattle.pieces.specs.Laws.Changes.{near_kept, kept_near}
 use Rattle.pieces.proofs.expression.settle.Goals as goal
 
-computes : (c : tie.After-compute) (o : Operator) → number_of_kind (operator o) ≡ (start c).args.kind
-    → c.compute.result ≡ computed_as o (start c).args.x (start c).args.y
-computes c o e =
-    let s = start c in
-    c.compute.ensures o e ∙ both_plain s.args.x s.args.y s.pre.1.0 s.pre.1.1.0 (computed_as o)
-
 pub returns-in_default : goal.returns-in_default
 returns-in_default c =
+    let result_is : (o : Operator) → number_of_kind (operator o) ≡ c.args.kind → c.compute-result.result ≡ computed_as o c.args.x c.args.y
+        = λ o e. c.compute-result.ensures o e ∙ both_plain c.args.x c.args.y c.requires.1.0 c.requires.1.1.0 (computed_as o) in
     let puts : c.put-2.new.out ≡ set (set c.args.out.now c.args.at c.args.x) (c.args.at + 1) c.args.y = two_put c.args.out.now c.args.at c.args.x c.args.y c.requires.1.0 c.requires.1.1.0 c.put.ensures c.put-2.ensures in
     record {
       lays = puts;
-      ends = λ o e. settled_out o c.args.x c.args.y (computes c o e) c.args.was c.args.length c.in_default.is;
+      ends = λ o e. settled_out o c.args.x c.args.y (result_is o e) c.args.was c.args.length c.in_default.is;
     }
 
 pub minus-requires : goal.minus-requires
 minus-requires c =
-    let near : Near c.in-Is.z = computed_near c.requires.0.o c.args.x c.args.y (computes c c.requires.0.o c.requires.0.is) c.in-Is.is in
+    let result_is : (o : Operator) → number_of_kind (operator o) ≡ c.args.kind → c.compute-result.result ≡ computed_as o c.args.x c.args.y
+        = λ o e. c.compute-result.ensures o e ∙ both_plain c.args.x c.args.y c.requires.1.0 c.requires.1.1.0 (computed_as o) in
+    let near : Near c.in-Is.z = computed_near c.requires.0.o c.args.x c.args.y (result_is c.requires.0.o c.requires.0.is) c.in-Is.is in
     (kept_near c.in-Is.z near, kept_near c.args.was c.requires.1.1.1.0)
 
 pub returns : goal.returns
 returns c =
-    let near : Near c.in-Is.z = computed_near c.requires.0.o c.args.x c.args.y (computes c c.requires.0.o c.requires.0.is) c.in-Is.is in
+    let result_is : (o : Operator) → number_of_kind (operator o) ≡ c.args.kind → c.compute-result.result ≡ computed_as o c.args.x c.args.y
+        = λ o e. c.compute-result.ensures o e ∙ both_plain c.args.x c.args.y c.requires.1.0 c.requires.1.1.0 (computed_as o) in
+    let near : Near c.in-Is.z = computed_near c.requires.0.o c.args.x c.args.y (result_is c.requires.0.o c.requires.0.is) c.in-Is.is in
     let puts : c.put-2.new.out ≡ set (set c.args.out.now c.args.at c.args.x) (c.args.at + 1) c.args.y = two_put c.args.out.now c.args.at c.args.x c.args.y c.requires.1.0 c.requires.1.1.0 c.put.ensures c.put-2.ensures in
     let was = c.args.was in
     let plain : minus (ty_of c.given.result) _ _ ≡ minus (ty_of c.given.result) c.in-Is.z was
     = ap₂ {C = ℤ} (minus (ty_of c.given.result)) (near_kept c.in-Is.z near) (near_kept was c.requires.1.1.1.0) in
     record {
       lays = puts;
-      ends = λ o e. settled_in o c.args.x c.args.y (computes c o e) was c.args.length c.given.result c.in-Is.is
-          (c.given.ensures o e) (word_back c.minus.result c.minus.type-inv ∙ c.minus.ensures ∙ plain);
+      ends = λ o e. settled_in o c.args.x c.args.y (result_is o e) was c.args.length c.given.result c.in-Is.is
+          (c.given.ensures o e) (word_back c.minus.result c.minus.type_inv ∙ c.minus.ensures ∙ plain);
     }

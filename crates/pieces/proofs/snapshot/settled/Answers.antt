@@ -63,7 +63,7 @@ bounds-next-v c =
 pub loop-i-preserved : goal.loop-i-preserved
 loop-i-preserved c =
     let read : let s = c.args in Reading s.t.now s.lists.now s.node s.old.now s.from c.loop-i.i c.wide-v.result = reading c.requires.0 (omega (arith, c.wide-count.ensures)) c.wide-v.ensures.0 in
-    (omega arith, minus_put read c.args.values.now c.requires.1 c.minus.result c.minus.type-inv c.minus.ensures c.loop-i.invariant.1)
+    (omega arith, minus_put read c.args.values.now c.requires.1 c.minus.result c.minus.type_inv c.minus.ensures c.loop-i.invariant.1)
 
 pub returns : goal.returns
 returns c =

@@ -65,7 +65,7 @@ bounds-values-v c =
 pub loop-i-preserved : goal.loop-i-preserved
 loop-i-preserved c =
     let read : let s = c.args in Reading s.t.now s.lists.now s.node s.old.now s.from c.loop-i.i c.wide-v.result = reading c.requires.0 (omega (arith, c.wide-count.ensures)) c.wide-v.ensures.0 in
-    (omega arith, plus_put read c.args.changes.now c.requires.1 c.plus.result c.plus.type-inv c.plus.ensures c.loop-i.invariant.1)
+    (omega arith, plus_put read c.args.changes.now c.requires.1 c.plus.result c.plus.type_inv c.plus.ensures c.loop-i.invariant.1)
 
 pub returns : goal.returns
 returns c =
