@@ -1,7 +1,7 @@
 -- A repeat behind the iterations that stay: the rest fall away, come anew, or there is none, as the definition of `loop` tells them apart.
 -- Assumes nothing.
 use mathlib.Core.Path.{◌≡◌, refl, sym, ap, ◌∙◌, subst}
-use Prim.Native.Nat.{ℕ, zero, suc, ◌+◌, ◌-◌, ◌≤◌, ◌<◌}
+use Prim.Native.Nat.{ℕ, zero, suc, ◌+◌, ◌≤◌, ◌<◌}
 use native.Mathlib.Omega.{arith}
 use native.Mathlib.Nat.{add-zero}
 use mathlib.Core.Bool.{false}
@@ -10,7 +10,7 @@ use lib.IntN.{ℤ}
 use Rattle.numbers.specs.Lay.{lay}
 use Rattle.rules.specs.Outcome.{accepted, ◌>>=◌, broken}
 use Rattle.rules.specs.Outcome as Paper
-use Rattle.rules.specs.Value.{Ty, at, put}
+use Rattle.rules.specs.Value.{Ty, at}
 use Rattle.rules.specs.Table.{types_of}
 use Rattle.rules.specs.Run.{Done, run}
 use Rattle.rules.specs.Patch.{Visited, Walked, Turn, no_steps, steps_of, finished, complete, grown, shrunk, loop, visit, walk}

@@ -1,7 +1,7 @@
 -- The iterations that come anew: they run from the last new snapshot, and what they leave is settled against the last old one.
 -- Assumes nothing.
 use mathlib.Core.Path.{◌≡◌, refl, sym, ap, ap₂, ◌∙◌, subst}
-use Prim.Native.Nat.{ℕ, zero, suc, ◌+◌, ◌-◌, ◌*◌, ◌≤◌, ◌<◌}
+use Prim.Native.Nat.{ℕ, zero, suc, ◌+◌, ◌*◌, ◌≤◌, ◌<◌}
 use native.Mathlib.Omega.{arith}
 use mathlib.Core.Bool.{false}
 use mathlib.Core.List.{List, []}
@@ -9,7 +9,7 @@ use lib.ListN.{length}
 use lib.IntN.{ℤ}
 use Rattle.rules.specs.Outcome.{accepted, refused, ◌>>=◌}
 use Rattle.rules.specs.Outcome as Paper
-use Rattle.rules.specs.Value.{Ty, at, zeros, most_variables, put, minus_all, snapshot}
+use Rattle.rules.specs.Value.{Ty, zeros, most_variables, put, minus_all, snapshot}
 use Rattle.rules.specs.Tree.{Statement, mentions}
 use Rattle.rules.specs.Table.{types_of, statement}
 use Rattle.rules.specs.Run.{Done, iterate, run}

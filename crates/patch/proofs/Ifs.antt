@@ -1,8 +1,7 @@
 -- An if: the answer of its head becomes a refusal of the whole, or the branch goes on, kept or flipped.
 -- Assumes nothing.
 use mathlib.Core.Path.{◌≡◌, refl, sym, ap, ◌∙◌, subst}
-use Prim.Native.Nat.{ℕ, ◌-◌}
-use native.Mathlib.Omega.{arith}
+use Prim.Native.Nat.{ℕ}
 use mathlib.Core.Bool.{Bool, true, false}
 use mathlib.Core.Option.{some}
 use mathlib.Core.List.{List}
@@ -24,7 +23,7 @@ use Rattle.table.specs.declared.answer.Outcome.TheVariants.{Refused as Stopped}
 use Rattle.run.specs.Laws.Taken.{AsIf, as_if}
 use Rattle.pieces.specs.Old.{part}
 use Rattle.patch.specs.Laws.Turns.{branch_of, walk_if}
-use Rattle.pieces.specs.Entry.{whole, WalkAs}
+use Rattle.pieces.specs.Entry.{WalkAs}
 use Rattle.patch.specs.Statement.{Enterable, WalksTo}
 use Rattle.patch.specs.Branch.{fork_of, fork_laid, ForkAs, ForksTo, Forked, KeepsTo, FlipsTo}
 use Rattle.pieces.specs.declared.entry.Reached.{Reached}

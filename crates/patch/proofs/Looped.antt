@@ -1,8 +1,7 @@
 -- A repeat: the answer of its head becomes a refusal of the whole, or the iterations go on.
 -- Assumes nothing.
 use mathlib.Core.Path.{◌≡◌, refl, sym, ap, ◌∙◌, subst}
-use Prim.Native.Nat.{ℕ, ◌-◌}
-use native.Mathlib.Omega.{arith}
+use Prim.Native.Nat.{ℕ}
 use mathlib.Core.Option.{some}
 use mathlib.Core.List.{List}
 use lib.ListN.{length}
@@ -19,7 +18,7 @@ use Rattle.table.specs.declared.answer.Outcome.TheVariants.{Refused as Stopped}
 use Rattle.run.specs.Laws.Loops.{AsRepeat, as_repeat}
 use Rattle.pieces.specs.Old.{part}
 use Rattle.patch.specs.Laws.Turns.{walk_repeat}
-use Rattle.pieces.specs.Entry.{whole, WalkAs}
+use Rattle.pieces.specs.Entry.{WalkAs}
 use Rattle.patch.specs.Statement.{Enterable, WalksTo}
 use Rattle.patch.specs.Loop.{Count, count_of, count_laid, CountAs, CountsTo, Counted, repeated, IteratesTo}
 use Rattle.pieces.specs.declared.entry.Reached.{Reached}

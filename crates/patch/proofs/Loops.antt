@@ -24,7 +24,7 @@ use Rattle.pieces.specs.Snapshot.{Named, Patched, patched}
 use Rattle.pieces.specs.Laws.Snapshot.{PatchedAt, patched_at, olds_long, moved_long}
 use Rattle.pieces.specs.Entry.{Sound, Came, VisitAs, AdvancedBy}
 use Rattle.patch.specs.Statement.{Visitable, VisitsTo}
-use Rattle.patch.specs.Loop.{Turned, turn_of, turn_at, behind, LastAt, Turnable, TurnCame, last_of, TurnAs, SnapAs, SnapsTo, TurnTo}
+use Rattle.patch.specs.Loop.{Turned, turn_of, turn_at, LastAt, Turnable, TurnCame, last_of, TurnAs, SnapAs, SnapsTo, TurnTo}
 use Rattle.pieces.specs.declared.entry.Reached.{Reached}
 use Rattle.patch.proofs.Walks.{Gone, gone, handed_up, sound_advanced}
 use Rattle.patch.proofs.Nodes.{for_tree, named_of}

@@ -11,7 +11,7 @@ use lib.IntN.{ℤ}
 use Rattle.numbers.specs.Lay.{lay, lay_append, set_lay}
 use Rattle.rules.specs.Outcome.{accepted, refused, ◌>>=◌}
 use Rattle.rules.specs.Outcome as Paper
-use Rattle.rules.specs.Value.{Ty, at}
+use Rattle.rules.specs.Value.{Ty}
 use Rattle.rules.specs.Tree.{Statement, mentions}
 use Rattle.rules.specs.Table.{types_of}
 use Rattle.rules.specs.Run.{times, run, repeat_words}

@@ -11,14 +11,12 @@ use borrow.Author.Tests.{le-leb, lt-leb}
 use Rattle.numbers.specs.Lay.{lay}
 use Rattle.rules.specs.Outcome.{accepted, refused, ◌>>=◌, need, broken}
 use Rattle.rules.specs.Outcome as Paper
-use Rattle.rules.specs.Value.{Ty, at, zeros, most_variables, put, minus_all, snapshot}
+use Rattle.rules.specs.Value.{Ty, zeros, most_variables, put, minus_all}
 use Rattle.rules.specs.Table.{types_of}
-use Rattle.rules.specs.Run.{run}
-use Rattle.rules.specs.Patch.{Walked, Snapshot, no_steps, all_fresh, read_snapshot, last_snapshot, shrunk, walk}
+use Rattle.rules.specs.Patch.{Walked, Snapshot, no_steps, all_fresh, read_snapshot, last_snapshot, shrunk}
 use Rattle.rules.proofs.Laws.Size.{weight}
 use Rattle.table.specs.Lists.{list_at}
 use Rattle.table.specs.Paper.{refusal_for}
-use Rattle.table.specs.declared.answer.Refusal.{Refusal}
 use Rattle.table.specs.declared.answer.Store.{Store}
 use Rattle.table.specs.declared.answer.Outcome.TheVariants.{Refused}
 use Rattle.run.specs.declared.statement.Ran.{Ran}

@@ -1,6 +1,6 @@
 -- What the contracts of statements say, by the definitions of `visit` and `walk`: of an entry, and of its parts by the node's kind.
 -- Assumes nothing.
-use Rattle.std.specs.Prelude.{◌≡◌, Bool, false, List, ℕ, ◌+◌, ◌≤◌, length, set, ℤ}
+use Rattle.std.specs.Prelude.{◌≡◌, Bool, false, List, ℕ, ◌+◌, ◌≤◌, set, ℤ}
 use Rattle.std.proofs.Math.Option.{some}
 use Rattle.rules.specs.Value.{zeros, most_variables, unchanged}
 use Rattle.rules.specs.Tree.{Statement, node_of, mentions}

@@ -5,7 +5,7 @@ use Rattle.numbers.specs.Lay.{lay}
 use Rattle.rules.specs.Outcome.{Outcome, accepted, ◌>>=◌}
 use Rattle.rules.specs.Value.{Ty, at, type_of, in_type, plus, zeros, most_variables, put, snapshot, minus_all}
 use Rattle.rules.specs.Table.{nodes_at, types_of}
-use Rattle.rules.specs.Patch.{Snapshot, read_snapshot, moved_all}
+use Rattle.rules.specs.Patch.{read_snapshot, moved_all}
 use Rattle.table.specs.Lists.{list_at, Row}
 use Rattle.pieces.specs.Unbroken.{Unbroken, UnbrokenWith}
 use Rattle.pieces.specs.Old.{part, Inside}

@@ -1,6 +1,6 @@
 -- Laws of the heads of ifs and repeats: where one is read, what stands in the old record before the walk and how far it has come.
 -- Assumes nothing.
-use Rattle.std.specs.Prelude.{◌≡◌, refl, ℕ, ◌+◌, ◌*◌, ◌-◌, ◌≤◌, ◌<◌, Bool, true, false, ltb, ℤ}
+use Rattle.std.specs.Prelude.{◌≡◌, refl, ℕ, ◌+◌, ◌*◌, ◌≤◌, ◌<◌, Bool, true, false, ltb, ℤ}
 use Rattle.std.proofs.Math.Path.{sym, ap, subst}
 use Rattle.std.proofs.Common.{◌∙◌, ⊎_elim, ltb-true, ltb-false}
 use native.Mathlib.Omega.{arith}

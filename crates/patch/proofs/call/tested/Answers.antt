@@ -6,7 +6,6 @@ use native.Mathlib.Omega.{arith}
 use lib.ListN.{length}
 use lib.IntN.{ℤ}
 use mathlib.Core.List.{List}
-use borrow.Author.Tests.{not-true, not-false}
 use Rattle.rules.specs.Outcome.{accepted}
 use Rattle.rules.specs.Value.{fit}
 use Rattle.rules.specs.Table.{variables, types_of, Program, check}

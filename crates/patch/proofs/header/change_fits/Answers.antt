@@ -5,7 +5,6 @@ use lib.IntN.{ℤ, ◌+ℤ◌}
 use mir.Syntax.{w64}
 use mir.Val.{SFits}
 use mir.ValLaws.{to_z-of_z}
-use borrow.Author.Tests.{not-true, not-false}
 use Rattle.rules.specs.Value.{in_type}
 use Rattle.rules.specs.Table.{ty_of}
 use Rattle.run.specs.Laws.Fitting.{between_back}

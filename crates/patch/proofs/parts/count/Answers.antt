@@ -4,7 +4,6 @@ use mathlib.Core.Path.{◌≡◌}
 use native.Mathlib.Omega.{arith}
 use mathlib.Core.List.{List}
 use lib.IntN.{ℤ}
-use borrow.Author.Tests.{not-true, not-false}
 use Rattle.rules.specs.Value.{Ty}
 use Rattle.rules.proofs.Laws.Parts.{node_at}
 use Rattle.patch.proofs.Nodes.{node_bytes, row_known, read_node_lem}

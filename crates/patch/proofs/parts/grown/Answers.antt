@@ -1,6 +1,5 @@
 -- `patch::parts::grown` meets its contract: the store that starts the run is the last new snapshot, and what the run leaves is the
 -- definition's. Assumes nothing.
-use Prim.Native.Nat.{◌-◌}
 use lib.IntN.{ℤ}
 use mathlib.Core.List.{List}
 use Rattle.patch.proofs.Growing.{grown_repeatable, grown_refused, grown_near, grown_answer}

@@ -5,7 +5,6 @@ use Prim.Native.Nat.{◌+◌, ◌≤◌, ◌<◌}
 use native.Mathlib.Omega.{arith}
 use mir.Syntax.{w64}
 use mir.ValLaws.{to_z-of_z}
-use borrow.Author.Tests.{not-true, not-false}
 use borrow.Author.Rules.{rules}
 use Rattle.rules.specs.Value.{at}
 use Rattle.patch.proofs.Heads.{head_none, head_wrong, head_snapped}

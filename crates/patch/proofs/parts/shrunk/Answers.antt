@@ -22,8 +22,7 @@ returns-then-not-snapshot_fits c =
 
 pub settled-next-requires : goal.settled-next-requires
 settled-next-requires c =
-    let room : c.width-w.result ≤ c.args.end - c.args.reached.from = omega arith in
-    (
+    let room : c.width-w.result ≤ c.args.end - c.args.reached.from = omega arith in (
       tail_standing c.requires c.width-w.ensures.0 room c.snapshot_fits.result c.snapshot_fits.ensures
           c.if-not-snapshot_fits.false,
       store_near (from_last c.requires.lastly c.started-store.ensures),

@@ -1,7 +1,6 @@
 -- `patch::parts::snapped` meets its contract: a snapshot that does not take its changes is broken; else the walk moves on behind it.
 -- Assumes nothing.
 use native.Mathlib.Omega.{arith}
-use borrow.Author.Tests.{not-true, not-false}
 use Rattle.patch.proofs.Heads.{snapped_broken, snapped_on}
 use Rattle.patch.proofs.Nodes.{named_row}
 use Rattle.patch.proofs.parts.snapped.Goals as goal

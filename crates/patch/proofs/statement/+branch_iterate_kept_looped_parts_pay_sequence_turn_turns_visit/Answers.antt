@@ -26,7 +26,6 @@ use Rattle.rules.specs.Outcome.{choose}
 use Rattle.rules.specs.Patch.{moved_all}
 use Rattle.rules.specs.Table.{types_of}
 use Rattle.run.specs.Laws.Taken.{taken_node}
-use borrow.Author.Tests.{not-true, not-false}
 use Rattle.pieces.specs.Snapshot.{Standing, MovedAs, olds}
 use Rattle.patch.proofs.Branches.{forked_at, fork_inside, branch_below, kept_visitable, kept_refused, kept_near as visited_near, kept_broken, kept_answer}
 use Rattle.patch.proofs.Looped.{looped_refused, looped_counted, looped_answer}
@@ -75,7 +74,7 @@ branch-returns-else-change-eq0 t c =
     (λ e. c.if-change-eq0.false (ap (of_z w64) e)) back
     c.flipped.result _ c.flipped.ensures
 
--- ======== 
+-- ========
 -- `iterate` in the cycle: the iterations that stay are patched, the count is set in front, and the rest follow.
 -- Assumes nothing.
 
@@ -190,7 +189,7 @@ iterate-returns t c =
     (subst (λ (n : ℕ). EndsTo c.args.t.now c.args.lists.now c.args.node c.child_b-body.result (count_of c.requires.count.head.word - n) (n - count_of c.requires.count.head.word) c.last_of.result c.args.old.now c.args.end c.turns-gone.result c.ended.result c.put.new.out c.ended.new.out) next
     (subst (λ (n : ℕ). EndsTo c.args.t.now c.args.lists.now c.args.node c.child_b-body.result (n - c.times-next.result) (c.times-next.result - n) c.last_of.result c.args.old.now c.args.end c.turns-gone.result c.ended.result c.put.new.out c.ended.new.out) was c.ended.ensures))
 
--- ======== 
+-- ========
 -- `kept` in the cycle: the branch that the condition takes is visited, the snapshot after takes its changes, and the condition stays.
 -- Assumes nothing.
 
@@ -319,7 +318,7 @@ kept-returns t c =
     c.move_snapshot.result _ moves c.if-not-move_snapshot.false c.put.new.out
     (c.put.ensures ∙ ap (set c.move_snapshot.new.out c.args.reached.at) word)
 
--- ======== 
+-- ========
 -- `looped` in the cycle: the head of the repeat, and then its iterations.
 -- Assumes nothing.
 
@@ -347,7 +346,7 @@ looped-returns-in-Is t c =
     looped_answer c.requires c.count-counted.result _ _ c.count-counted.ensures c.in-Is.is back c.iterate.result _
     c.iterate.ensures
 
--- ======== 
+-- ========
 -- `parts` in the cycle: the function of the entry's kind is called, and its answer handed on.
 -- Assumes nothing.
 
@@ -404,7 +403,7 @@ parts-shape_of-out t c = c.looped.auto.out
 pub parts-returns : goal.parts-returns
 parts-returns t c = c.looped.ensures
 
--- ======== 
+-- ========
 -- `pay` in the cycle: a step, the parts, and then the opening words in front of them.
 -- Assumes nothing.
 
@@ -444,7 +443,7 @@ pay-returns t c =
     pay_answer c.requires c.stepped.ensures c.parts-inside.result c.args.out.now _ c.parts-inside.ensures c.in-Accepted.is
     c.«open».new.out c.«open».ensures
 
--- ======== 
+-- ========
 -- `sequence` in the cycle: the first entry, and the second from where the first ended.
 -- Assumes nothing.
 
@@ -490,7 +489,7 @@ sequence-returns t c =
     (read_node_lem c.requires.known (λ n. n.b) c.child_b.ensures)
     c.visit.result _ c.visit.ensures
 
--- ======== 
+-- ========
 -- `turn` in the cycle: the body is visited, and the snapshot behind it takes its changes.
 -- Assumes nothing.
 
@@ -514,7 +513,7 @@ pub turn-returns : goal.turn-returns
 turn-returns t c =
     turn_answer c.requires c.visit-gone.result _ _ c.visit-gone.ensures c.in-Accepted.is c.snapped.result _ c.snapped.ensures
 
--- ======== 
+-- ========
 -- `turns` in the cycle. The loop's invariant: so many iterations have come to this; its measure is the iterations left.
 -- Assumes nothing.
 
@@ -551,7 +550,7 @@ turns-returns t c =
     let so_far : SoFar c.requires c.args.count c.args.out.now c.loop-i.i c.loop-i.so_far c.loop-i.out = c.loop-i.invariant.1 c.requires in
     turns_all c.requires c.args.count _ c.loop-i.i c.loop-i.so_far c.loop-i.out so_far c.loop-i-test.false c.loop-i.invariant.0
 
--- ======== 
+-- ========
 -- `visit` in the cycle: the entry is met, and then skipped, or paid for and walked.
 -- Assumes nothing.
 

@@ -1,7 +1,6 @@
 -- `pieces::change::moved` meets its contract: the test of the type decides whether the old value with its change is one.
 -- Assumes nothing.
 use mathlib.Core.Path.{sym, ◌∙◌}
-use borrow.Author.Tests.{not-true, not-false}
 use Rattle.rules.specs.Table.{ty_of}
 use Rattle.run.specs.Laws.Numbers.{word}
 use Rattle.pieces.specs.Laws.Changes.{moved_out, moved_in}

@@ -17,7 +17,7 @@ loop-i-init c = (omega arith, laid_none)
 pub overflow_add-out : goal.overflow_add-out
 overflow_add-out c =
     let counted : Counted (c.args.stop - c.args.from) (length c.args.out.now - c.args.at) c.if-out-at.count = elim c.if-out-at.branch [
-      then-out-at w ↦ record { within = omega arith; inside = omega arith; most = inr (omega arith) }
+      | then-out-at w ↦ record { within = omega arith; inside = omega arith; most = inr (omega arith) }
       | else-out-at+then-out-at-2 w ↦ record { within = omega arith; inside = omega arith; most = inr (omega arith) }
       | else-out-at+else-out-at-2 w ↦ record { within = omega arith; inside = omega arith; most = inl (omega arith) }
     ] in
@@ -26,7 +26,7 @@ overflow_add-out c =
 pub offset_bounds-old-from : goal.offset_bounds-old-from
 offset_bounds-old-from c =
     let counted : Counted (c.args.stop - c.args.from) (length c.args.out.now - c.args.at) c.if-out-at.count = elim c.if-out-at.branch [
-      then-out-at w ↦ record { within = omega arith; inside = omega arith; most = inr (omega arith) }
+      | then-out-at w ↦ record { within = omega arith; inside = omega arith; most = inr (omega arith) }
       | else-out-at+then-out-at-2 w ↦ record { within = omega arith; inside = omega arith; most = inr (omega arith) }
       | else-out-at+else-out-at-2 w ↦ record { within = omega arith; inside = omega arith; most = inl (omega arith) }
     ] in
@@ -35,7 +35,7 @@ offset_bounds-old-from c =
 pub bounds-old-from : goal.bounds-old-from
 bounds-old-from c =
     let counted : Counted (c.args.stop - c.args.from) (length c.args.out.now - c.args.at) c.if-out-at.count = elim c.if-out-at.branch [
-      then-out-at w ↦ record { within = omega arith; inside = omega arith; most = inr (omega arith) }
+      | then-out-at w ↦ record { within = omega arith; inside = omega arith; most = inr (omega arith) }
       | else-out-at+then-out-at-2 w ↦ record { within = omega arith; inside = omega arith; most = inr (omega arith) }
       | else-out-at+else-out-at-2 w ↦ record { within = omega arith; inside = omega arith; most = inl (omega arith) }
     ] in
@@ -44,7 +44,7 @@ bounds-old-from c =
 pub overflow_add-at : goal.overflow_add-at
 overflow_add-at c =
     let counted : Counted (c.args.stop - c.args.from) (length c.args.out.now - c.args.at) c.if-out-at.count = elim c.if-out-at.branch [
-      then-out-at w ↦ record { within = omega arith; inside = omega arith; most = inr (omega arith) }
+      | then-out-at w ↦ record { within = omega arith; inside = omega arith; most = inr (omega arith) }
       | else-out-at+then-out-at-2 w ↦ record { within = omega arith; inside = omega arith; most = inr (omega arith) }
       | else-out-at+else-out-at-2 w ↦ record { within = omega arith; inside = omega arith; most = inl (omega arith) }
     ] in
@@ -53,7 +53,7 @@ overflow_add-at c =
 pub offset_bounds-out-at : goal.offset_bounds-out-at
 offset_bounds-out-at c =
     let counted : Counted (c.args.stop - c.args.from) (length c.args.out.now - c.args.at) c.if-out-at.count = elim c.if-out-at.branch [
-      then-out-at w ↦ record { within = omega arith; inside = omega arith; most = inr (omega arith) }
+      | then-out-at w ↦ record { within = omega arith; inside = omega arith; most = inr (omega arith) }
       | else-out-at+then-out-at-2 w ↦ record { within = omega arith; inside = omega arith; most = inr (omega arith) }
       | else-out-at+else-out-at-2 w ↦ record { within = omega arith; inside = omega arith; most = inl (omega arith) }
     ] in
@@ -62,7 +62,7 @@ offset_bounds-out-at c =
 pub bounds-out-at : goal.bounds-out-at
 bounds-out-at c =
     let counted : Counted (c.args.stop - c.args.from) (length c.args.out.now - c.args.at) c.if-out-at.count = elim c.if-out-at.branch [
-      then-out-at w ↦ record { within = omega arith; inside = omega arith; most = inr (omega arith) }
+      | then-out-at w ↦ record { within = omega arith; inside = omega arith; most = inr (omega arith) }
       | else-out-at+then-out-at-2 w ↦ record { within = omega arith; inside = omega arith; most = inr (omega arith) }
       | else-out-at+else-out-at-2 w ↦ record { within = omega arith; inside = omega arith; most = inl (omega arith) }
     ] in
@@ -72,7 +72,7 @@ bounds-out-at c =
 pub overflow_add-i : goal.overflow_add-i
 overflow_add-i c =
     let counted : Counted (c.args.stop - c.args.from) (length c.args.out.now - c.args.at) c.if-out-at.count = elim c.if-out-at.branch [
-      then-out-at w ↦ record { within = omega arith; inside = omega arith; most = inr (omega arith) }
+      | then-out-at w ↦ record { within = omega arith; inside = omega arith; most = inr (omega arith) }
       | else-out-at+then-out-at-2 w ↦ record { within = omega arith; inside = omega arith; most = inr (omega arith) }
       | else-out-at+else-out-at-2 w ↦ record { within = omega arith; inside = omega arith; most = inl (omega arith) }
     ] in
@@ -81,7 +81,7 @@ overflow_add-i c =
 pub loop-i-preserved : goal.loop-i-preserved
 loop-i-preserved c =
     let counted : Counted (c.args.stop - c.args.from) (length c.args.out.now - c.args.at) c.if-out-at.count = elim c.if-out-at.branch [
-      then-out-at w ↦ record { within = omega arith; inside = omega arith; most = inr (omega arith) }
+      | then-out-at w ↦ record { within = omega arith; inside = omega arith; most = inr (omega arith) }
       | else-out-at+then-out-at-2 w ↦ record { within = omega arith; inside = omega arith; most = inr (omega arith) }
       | else-out-at+else-out-at-2 w ↦ record { within = omega arith; inside = omega arith; most = inl (omega arith) }
     ] in
@@ -95,7 +95,7 @@ shape_of-out c =
 pub returns : goal.returns
 returns c =
     let counted : Counted (c.args.stop - c.args.from) (length c.args.out.now - c.args.at) c.if-out-at.count = elim c.if-out-at.branch [
-      then-out-at w ↦ record { within = omega arith; inside = omega arith; most = inr (omega arith) }
+      | then-out-at w ↦ record { within = omega arith; inside = omega arith; most = inr (omega arith) }
       | else-out-at+then-out-at-2 w ↦ record { within = omega arith; inside = omega arith; most = inr (omega arith) }
       | else-out-at+else-out-at-2 w ↦ record { within = omega arith; inside = omega arith; most = inl (omega arith) }
     ] in

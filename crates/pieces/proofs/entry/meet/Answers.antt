@@ -9,7 +9,6 @@ use lib.Signed.{non_neg}
 use mir.Syntax.{w64}
 use mir.Val.{to_z, of_z}
 use mir.ValLaws.{to_z-of_z, to_z_pos}
-use borrow.Author.Tests.{not-true, not-false}
 use borrow.Author.Rules.{rules}
 use Rattle.rules.specs.Value.{at}
 use Rattle.pieces.specs.Laws.Entry.{InSize, in_size, under_three, other_node, too_small, too_long, not_last, outside_limits, entry_met}

@@ -13,5 +13,5 @@ returns-then-reached-steps c =
 pub returns : goal.returns
 returns c =
     λ end e inside same words behind.
-            skip_came c.args.old.now c.args.stop end c.args.steps c.args.reached c.requires inside c.if-reached-steps.false
+    skip_came c.args.old.now c.args.stop end c.args.steps c.args.reached c.requires inside c.if-reached-steps.false
     e c.args.out.now same words behind c.copy.ensures

@@ -45,7 +45,7 @@ operand-returns t c =
     let change : Change c.requires.0 c.in-Is.change c.in-Is.length c.args.out.now c.shift-shifted.new.out = change_got c.requires.0 c.shift-shifted.result _ _ c.shift-shifted.ensures c.in-Is.is in
     operand_moved c.requires.0 change c.args.was c.requires.1 c.moved-new.ensures c.in-Is-new.is
 
--- ======== 
+-- ========
 -- `operate` in the cycle: the left operand's new value and place, then the right one's, then the result; a refusal is handed up.
 -- Assumes nothing.
 
@@ -206,7 +206,7 @@ operate-returns t c =
     let kind_here : c.kind.result ≡ (node_at c.args.t.now c.args.node).kind = node_read_lem c.requires.0 (λ n. n.kind) c.kind.ensures in
     operator_answer operating left right kind_here c.settle.ensures
 
--- ======== 
+-- ========
 -- `shift` in the cycle: a constant has no change, a variable has its own, and an operator with its old operands is handed to `operate`.
 -- Assumes nothing.
 

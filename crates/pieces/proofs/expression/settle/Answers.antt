@@ -19,7 +19,7 @@ use Rattle.pieces.proofs.expression.settle.Goals as goal
 pub returns-in_default : goal.returns-in_default
 returns-in_default c =
     let result_is : (o : Operator) → number_of_kind (operator o) ≡ c.args.kind → c.compute-result.result ≡ computed_as o c.args.x c.args.y
-        = λ o e. c.compute-result.ensures o e ∙ both_plain c.args.x c.args.y c.requires.1.0 c.requires.1.1.0 (computed_as o) in
+    = λ o e. c.compute-result.ensures o e ∙ both_plain c.args.x c.args.y c.requires.1.0 c.requires.1.1.0 (computed_as o) in
     let puts : c.put-2.new.out ≡ set (set c.args.out.now c.args.at c.args.x) (c.args.at + 1) c.args.y = two_put c.args.out.now c.args.at c.args.x c.args.y c.requires.1.0 c.requires.1.1.0 c.put.ensures c.put-2.ensures in
     record {
       lays = puts;
@@ -29,14 +29,14 @@ returns-in_default c =
 pub minus-requires : goal.minus-requires
 minus-requires c =
     let result_is : (o : Operator) → number_of_kind (operator o) ≡ c.args.kind → c.compute-result.result ≡ computed_as o c.args.x c.args.y
-        = λ o e. c.compute-result.ensures o e ∙ both_plain c.args.x c.args.y c.requires.1.0 c.requires.1.1.0 (computed_as o) in
+    = λ o e. c.compute-result.ensures o e ∙ both_plain c.args.x c.args.y c.requires.1.0 c.requires.1.1.0 (computed_as o) in
     let near : Near c.in-Is.z = computed_near c.requires.0.o c.args.x c.args.y (result_is c.requires.0.o c.requires.0.is) c.in-Is.is in
     (kept_near c.in-Is.z near, kept_near c.args.was c.requires.1.1.1.0)
 
 pub returns : goal.returns
 returns c =
     let result_is : (o : Operator) → number_of_kind (operator o) ≡ c.args.kind → c.compute-result.result ≡ computed_as o c.args.x c.args.y
-        = λ o e. c.compute-result.ensures o e ∙ both_plain c.args.x c.args.y c.requires.1.0 c.requires.1.1.0 (computed_as o) in
+    = λ o e. c.compute-result.ensures o e ∙ both_plain c.args.x c.args.y c.requires.1.0 c.requires.1.1.0 (computed_as o) in
     let near : Near c.in-Is.z = computed_near c.requires.0.o c.args.x c.args.y (result_is c.requires.0.o c.requires.0.is) c.in-Is.is in
     let puts : c.put-2.new.out ≡ set (set c.args.out.now c.args.at c.args.x) (c.args.at + 1) c.args.y = two_put c.args.out.now c.args.at c.args.x c.args.y c.requires.1.0 c.requires.1.1.0 c.put.ensures c.put-2.ensures in
     let was = c.args.was in

@@ -1,6 +1,5 @@
 -- `pieces::snapshot::move_snapshot` meets its contract. The loop's invariant: the first i of the new words are in their types and laid down;
 -- the first that is not refuses. Assumes nothing.
-use Prim.Native.Nat.{◌-◌}
 use native.Mathlib.Omega.{arith}
 use lib.IntN.{pos}
 use borrow.Author.Count.{below_none, below_more}

@@ -1,6 +1,5 @@
 -- `pieces::snapshot::settled` meets its contract. The loop's invariant: the first i of the settled changes are put into the changes; what a
 -- turn computes is the next. Assumes nothing.
-use Prim.Native.Nat.{◌-◌}
 use native.Mathlib.Omega.{arith}
 use Rattle.pieces.proofs.Snapshots.{put_none, put_all}
 use Rattle.table.specs.Laws.Row.{row_long}

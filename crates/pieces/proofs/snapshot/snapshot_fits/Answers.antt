@@ -1,11 +1,9 @@
 -- `pieces::snapshot::snapshot_fits` meets its contract. The loop's invariant: each word before i is in its type; the first that is not decides.
 -- Assumes nothing.
 use mathlib.Core.Path.{◌≡◌, ◌∙◌}
-use mathlib.Core.Bool.{true}
-use Prim.Native.Nat.{◌+◌, ◌-◌}
+use Prim.Native.Nat.{◌+◌}
 use native.Mathlib.Omega.{arith}
 use lib.ListN.{length, get_or}
-use borrow.Author.Tests.{not-true, not-false}
 use borrow.Author.Count.{below_none, below_more}
 use borrow.Author.Rules.{rules}
 use Rattle.rules.specs.Value.{at, type_of, in_type}

@@ -1,6 +1,5 @@
 -- `pieces::snapshot::started` meets its contract. The loop's invariant: the first i of the new values are put into a store of zeros; what a
 -- turn computes is the next. Assumes nothing.
-use Prim.Native.Nat.{◌-◌}
 use native.Mathlib.Omega.{arith}
 use Rattle.rules.specs.Value.{zeros, most_variables}
 use Rattle.pieces.proofs.Snapshots.{put_none, put_all}

@@ -1,7 +1,6 @@
 -- `pieces::snapshot::unchanged` meets its contract. The loop's invariant: each variable before i has change 0; the first that has not decides.
 -- Assumes nothing.
 use mathlib.Core.Path.{sym, ap, ◌∙◌}
-use Prim.Native.Nat.{◌-◌}
 use native.Mathlib.Omega.{arith}
 use mir.Syntax.{w64}
 use mir.Val.{of_z}
