@@ -1,5 +1,4 @@
-// The library for C: the three calls under the names of include/simazokwa.h, which says what a caller owes.
-// A slice here is a pointer and a length there, and the answer is 72 words behind one pointer.
+// The three calls as C sees them: a number, an answer of 72 words, and a record. The crate simazokwa_c exports them.
 #![tactic(auto)]
 mod words;
 
@@ -13,16 +12,14 @@ use table::check::check;
 use table::paper::number_of;
 
 // The number of the table check: 0 when accepted, else 1 to 5.
-#[unsafe(no_mangle)]
-pub extern "C" fn simazokwa_check(table: &[u8]) -> u32
+pub fn simazokwa_check(table: &[u8]) -> u32
     ensures { IsCheck table.now result }
 {
     number_of(check(table))
 }
 
 // The run: its number, its answer's words, and its record in the lent buffer.
-#[unsafe(no_mangle)]
-pub extern "C" fn simazokwa_run(
+pub fn simazokwa_run(
     table: &[u8],
     inputs: &[i64],
     limit: i64,
@@ -36,8 +33,7 @@ pub extern "C" fn simazokwa_run(
 }
 
 // The patch: its number, its answer's words, and the new record in the lent buffer.
-#[unsafe(no_mangle)]
-pub extern "C" fn simazokwa_patch(
+pub fn simazokwa_patch(
     table: &[u8],
     old: &[i64],
     changes: &[i64],
