@@ -19,6 +19,7 @@
 // A call's arrays stand on the stack: 8,192 bytes for the table, 32,768 for the words, as many for their bytes while they are
 // read, as many for the buffer, and 4,096 for the text of its line.
 #![tactic(auto)]
+
 mod execute;
 mod stream;
 

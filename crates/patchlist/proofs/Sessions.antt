@@ -1,6 +1,6 @@
 -- Laws of sessions: the tests of the header in a row, how many words there are, and the record that a patch hands on.
 -- Assumes nothing.
-use mathlib.Core.Path.{◌≡◌, refl, sym, ap, ap₂, subst, ◌∙◌}
+use mathlib.Core.Path.{◌≡◌, refl, sym, ap, ap₂, ◌∙◌}
 use mathlib.Core.Bool.{Bool, true, false, ◌&&◌, true≢false, false≢true}
 use mathlib.Core.List.{List, [], ◌∷◌, ◌++◌}
 use Prim.Native.Nat.{ℕ, zero, suc, ◌+◌, ◌-◌, ◌*◌, ◌≤◌, ◌<◌}
@@ -13,8 +13,8 @@ use lib.IntN.{ℤ, pos}
 use borrow.Author.Tests.{lt-leb, le-leb, ne_eqb, eq-eqb, leb-true}
 use Rattle.numbers.specs.Lay.{lay, lay_to_end}
 use Rattle.numbers.specs.Laws.{and_left, and_right}
-use Rattle.rules.specs.Table.{u16, variables, Program, check}
-use Rattle.rules.specs.Outcome.{accepted, choose}
+use Rattle.rules.specs.Table.{u16, check}
+use Rattle.rules.specs.Outcome.{choose}
 use Rattle.rules.specs.Value.{at}
 use Rattle.rules.specs.Call.{Called, IsCheck, call_check, IsRun, call_run, IsPatch, call_patch}
 use Rattle.rules.proofs.Laws.Header.{Sized, sized}

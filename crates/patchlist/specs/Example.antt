@@ -1,6 +1,6 @@
 -- The session of program P that document 01 lists, computed: the definition of a session's last record on its bytes.
 -- Assumes nothing.
-use Rattle.std.specs.Prelude.{◌≡◌, refl, List, [], ◌∷◌, ℕ, take, ℤ, pos}
+use Rattle.std.specs.Prelude.{◌≡◌, refl, List, [], ◌∷◌, ℕ, take, pos}
 use Rattle.rules.specs.Value.{zeros}
 use Rattle.rules.specs.Computing.{computing}
 use Rattle.patchlist.specs.Session.{opens, room, handed, handed_on, words_of, calls_end, words_end, table_end, session_end}

@@ -12,6 +12,7 @@
 // A line is the call, 0, steps, walked, reused, fresh, the record's length and the V output values; or the call and the number of
 // its refusal. A session that is none, or whose count of words is wrong, is the line `session refused`.
 #![tactic(auto)]
+
 mod listing;
 mod say;
 mod session;

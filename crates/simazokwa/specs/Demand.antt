@@ -8,7 +8,7 @@ use Rattle.std.proofs.Math.IntN.{pos}
 use Rattle.rules.specs.Outcome.{accepted}
 use Rattle.rules.specs.Value.{Ty, plus_all}
 use Rattle.rules.specs.Table.{Program, check}
-use Rattle.rules.specs.Call.{Called, call_run, call_patch, limit_of, inputs_of, outputs_of, legal}
+use Rattle.rules.specs.Call.{Called, call_run, limit_of, inputs_of, outputs_of, legal}
 use Rattle.promises.specs.Rerun.{Left, IsRerun}
 use Rattle.promises.proofs.Rerun.{patch_is_rerun}
 use Rattle.simazokwa.specs.Words.{head_words, answer_words, Told, RunTold, PatchTold}

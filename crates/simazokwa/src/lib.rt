@@ -1,5 +1,6 @@
 // The three calls as C sees them: a number, an answer of 72 words, and a record. The crate simazokwa_c exports them.
 #![tactic(auto)]
+
 mod words;
 
 ghost use Rattle.rules.specs.Call.{IsCheck};

@@ -1,6 +1,7 @@
 // The library for C: the three calls under the names of include/simazokwa.h, which says what a caller owes.
 // A slice here is a pointer and a length there, and the answer is 72 words behind one pointer.
 #![tactic(auto)]
+
 ghost use Rattle.rules.specs.Call.{IsCheck};
 ghost use Rattle.simazokwa.specs.Words.{RunTold, PatchTold};
 

@@ -18,4 +18,4 @@ pub slice_bounds-answer_run-count : goal.slice_bounds-answer_run-count
 slice_bounds-answer_run-count c = c.requires.0.some c.if-call-eq0.false c.if-call-eq2.false
 
 pub slice_bounds-answer_run-start : goal.slice_bounds-answer_run-start
-slice_bounds-answer_run-start c = sub-answer-run c
+slice_bounds-answer_run-start c = c.requires.0.some c.if-call-eq0.false c.if-call-eq2.false

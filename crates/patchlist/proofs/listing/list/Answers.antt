@@ -5,7 +5,6 @@ use mathlib.Core.Bool.{true}
 use Prim.Native.Nat.{◌+◌, ◌-◌, ◌≤◌}
 use native.Mathlib.Omega.{arith}
 use lib.ListN.{length}
-use borrow.Author.Tests.{not-true, not-false}
 use Rattle.rules.specs.Table.{u16}
 use Rattle.patchlist.specs.Session.{opens}
 use Rattle.patchlist.proofs.Sessions.{opened, session_refused, session_opened}

@@ -12,9 +12,12 @@ returns-in-Accepted c =
     let after =
     handed_new c.args.t.now c.args.old.now c.args.changes.now c.patch-answer.result _ c.patch-answer.ensures new_long
     c.in-Accepted.is c.requires.1 c.lay_slice.ensures.laid in
-    (search rules, after)
+    record { long = search rules; handed = after }
 
 pub returns-in_default : goal.returns-in_default
 returns-in_default c =
     let new_long : length c.patch-answer.new.out ≡ 2048 = search rules in
-    (c.requires.1, handed_old c.args.t.now c.args.old.now c.args.changes.now c.patch-answer.result _ c.patch-answer.ensures new_long c.in_default.field-0 c.in_default.is)
+    record {
+      long = c.requires.1;
+      handed = handed_old c.args.t.now c.args.old.now c.args.changes.now c.patch-answer.result _ c.patch-answer.ensures new_long c.in_default.field-0 c.in_default.is;
+    }

@@ -1,6 +1,5 @@
 -- `text::line::add_bytes` meets its contract. The loop's invariant: the place lies in the array.
 -- Assumes nothing.
-use Prim.Native.Nat.{◌-◌}
 use Rattle.text.proofs.line.add_bytes.Goals as goal
 
 pub loop-i-preserved : goal.loop-i-preserved

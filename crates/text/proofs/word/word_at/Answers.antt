@@ -10,5 +10,5 @@ use Rattle.text.proofs.word.word_at.Goals as goal
 
 pub returns : goal.returns
 returns c =
-    read_back c.signed.result c.signed.type-inv ∙ c.signed.ensures
+    read_back c.signed.result c.signed.type_inv ∙ c.signed.ensures
     ∙ ap₂ {C = ℤ} (λ (a b : ℕ). to_z w64 (a + 4294967296 * b)) c.half.ensures.0 c.half-2.ensures.0
