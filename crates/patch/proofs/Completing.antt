@@ -12,7 +12,7 @@ use Rattle.rules.specs.Outcome.{accepted}
 use Rattle.rules.specs.Value.{zeros, most_variables, padded}
 use Rattle.rules.specs.Patch.{Counts, Visited, steps_of}
 use Rattle.rules.specs.Run.{headed, record_of}
-use Rattle.rules.specs.Call.{Answer as Paper-Answer, answered}
+use Rattle.rules.specs.Call.{Answer as PaperAnswer, answered}
 use Rattle.rules.proofs.Laws.Call.{length_padded}
 use Rattle.table.specs.Paper.{number_of, answer_of}
 use Rattle.table.specs.declared.answer.Outcome.{Outcome}
@@ -79,12 +79,12 @@ module _ {v limit : ℕ} {inputs outputs : Store} {r : Reached} {now : List ℤ}
       → after ≡ (answered (length now) (accepted (finished v limit h.ins h.outs w))).buffer
   unfolding answered record_of
   buffer_is {three = three} {four = four} {five = five} a₃ a₄ a₅ a₆ =
-      let ins-are : take v inputs.values ≡ h.ins = ap (take v) h.holds_in ∙ padded_front v h.ins h.each_in in
-      let outs-are : take v outputs.values ≡ h.outs = ap (take v) h.holds_out ∙ padded_front v h.outs h.each_out in
+      let ins_are : take v inputs.values ≡ h.ins = ap (take v) h.holds_in ∙ padded_front v h.ins h.each_in in
+      let outs_are : take v outputs.values ≡ h.outs = ap (take v) h.holds_out ∙ padded_front v h.outs h.each_out in
       let front = ap₂ {C = List ℤ} (λ (l : List ℤ) (n : ℕ). set (set l 0 (pos n)) 1 (pos limit)) h.lays long_body in
       let laid : five ≡ lay h.before 0 words =
       a₅ ∙ ap₂ {C = List ℤ} (λ (l ws : List ℤ). lay l (3 + v) ws)
-      (a₄ ∙ ap₂ {C = List ℤ} (λ (l ws : List ℤ). lay l 3 ws) (a₃ ∙ ap₂ {C = List ℤ} (λ (l : List ℤ) (n : ℕ). set l 2 (pos n)) front steps_are) ins-are) outs-are
+      (a₄ ∙ ap₂ {C = List ℤ} (λ (l ws : List ℤ). lay l 3 ws) (a₃ ∙ ap₂ {C = List ℤ} (λ (l : List ℤ) (n : ℕ). set l 2 (pos n)) front steps_are) ins_are) outs_are
       ∙ record_laid h.before h.ins h.outs w.words (pos (headed + length (h.ins ++ (h.outs ++ w.words)))) (pos limit) (pos steps) v
       h.each_in h.each_out in
       let fits : length words ≤ length h.before = omega (arith, h.room, long, out_long) in
@@ -98,9 +98,9 @@ module _ {v limit : ℕ} {inputs outputs : Store} {r : Reached} {now : List ℤ}
       → answer_of a ≡ (answered (length now) (accepted (finished v limit h.ins h.outs w))).answer
   unfolding answered
   answer_is a o s u x f l vs cs =
-      ap₂ {C = Paper-Answer} (λ (q : Outcome) (n : ℕ). record { number = number_of q; steps = n; counts = record { walked = a.walked; reused = a.reused; fresh = a.fresh }; length = a.length; values = a.values; changes = a.changes }) o (s ∙ steps_are)
-      ∙ ap₂ {C = Paper-Answer} (λ (c : Counts) (n : ℕ). record { number = 0; steps = steps; counts = c; length = n; values = a.values; changes = a.changes }) counts (l ∙ long)
-      ∙ ap₂ {C = Paper-Answer} (λ (ws zs : List ℤ). record { number = 0; steps = steps; counts = w.counts; length = length words; values = ws; changes = zs }) (vs ∙ h.holds_out) (cs ∙ ap (λ (ws : List ℤ). padded (take v ws)) h.changes)
+      ap₂ {C = PaperAnswer} (λ (q : Outcome) (n : ℕ). record { number = number_of q; steps = n; counts = record { walked = a.walked; reused = a.reused; fresh = a.fresh }; length = a.length; values = a.values; changes = a.changes }) o (s ∙ steps_are)
+      ∙ ap₂ {C = PaperAnswer} (λ (c : Counts) (n : ℕ). record { number = 0; steps = steps; counts = c; length = n; values = a.values; changes = a.changes }) counts (l ∙ long)
+      ∙ ap₂ {C = PaperAnswer} (λ (ws zs : List ℤ). record { number = 0; steps = steps; counts = w.counts; length = length words; values = ws; changes = zs }) (vs ∙ h.holds_out) (cs ∙ ap (λ (ws : List ℤ). padded (take v ws)) h.changes)
     where
       counts : ◌≡◌ {A = Counts} (record { walked = a.walked; reused = a.reused; fresh = a.fresh }) w.counts
       counts = ap₂ {C = Counts} (λ (i j : ℕ). record { walked = i; reused = j; fresh = a.fresh }) (u ∙ h.walks) (x ∙ h.reuses)

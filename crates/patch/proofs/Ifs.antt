@@ -117,7 +117,7 @@ module _ {bytes : List ℕ} {base : ℕ} {lists : List ℕ} {node : ℕ} {old : 
 
       pub branch_flipped : (change ≡ pos 0 → ⊥) → {z : ℤ} → z ≡ change → (r : Reached) (after : List ℤ) → FlipsTo bytes node z old end s r one after
           → WalksTo bytes node old end s r out after
-      branch_flipped other-than e r after g = by false (other told.fork.test.change (λ n. other-than (told.changes ∙ n))) r after
+      branch_flipped other_than e r after g = by false (other told.fork.test.change (λ n. other_than (told.changes ∙ n))) r after
           (g node its.e its.s its.t own_here told.fork told.comes (e ∙ told.changes) out told.laid)
         where
           other : (z : ℤ) → (z ≡ pos 0 → ⊥) → eq_z z (pos 0) ≡ false

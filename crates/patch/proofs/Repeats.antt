@@ -204,7 +204,7 @@ module _ {bytes : List ℕ} {base : ℕ} {lists : List ℕ} {node : ℕ} {new : 
             → Came (whole (shut (joined a w))) s x old end out₀ final
         unfolding both steps_of
         closes w x two final out₀ sets laid d =
-            let at-turns : u.at ≡ s.at + 1 + length vs + length c.count.words = omega (arith, step.at, h.size) in
+            let at_turns : u.at ≡ s.at + 1 + length vs + length c.count.words = omega (arith, step.at, h.size) in
             let second : s.at + 1 + length vs ≡ s.at + 1 + length c.head.snap.new = omega (arith, width h) in
             let leaves : x.left + (a.counts.walked + w.counts.walked + (a.counts.reused + w.counts.reused) + (a.counts.fresh + w.counts.fresh)) ≡ s.left
             = omega (arith, d.leaves, came.leaves, step.left) in
@@ -213,7 +213,7 @@ module _ {bytes : List ℕ} {base : ℕ} {lists : List ℕ} {node : ℕ} {new : 
             let onward : s.from ≤ x.from = omega (arith, d.onward, came.onward, step.from) in
             let words = a.words ++ w.words in
             let ends : x.at ≡ s.at + length (repeat_words c.count.change c.head.snap.new c.count.words words)
-            = omega (arith, d.ends, came.ends, at-turns, width h, length-append a.words w.words, repeat_long c.count.change c.head.snap.new c.count.words words) in
+            = omega (arith, d.ends, came.ends, at_turns, width h, length-append a.words w.words, repeat_long c.count.change c.head.snap.new c.count.words words) in
             let turns : final ≡ lay (set out s.at new) u.at words
             = d.lays
             ∙ ap₂ {C = List ℤ} (λ (l : List ℤ) (i : ℕ). lay l i w.words)
@@ -230,7 +230,7 @@ module _ {bytes : List ℕ} {base : ℕ} {lists : List ℕ} {node : ℕ} {new : 
               ends = ends;
               lays = turns
                   ∙ ap₂ {C = List ℤ} (λ (l : List ℤ) (z : ℤ). lay (set l s.at z) u.at words) laid h.is
-                  ∙ repeat_laid out₀ c.head.snap.new c.count.words words c.count.change s.at (s.at + 1 + length vs) u.at second at-turns;
+                  ∙ repeat_laid out₀ c.head.snap.new c.count.words words c.count.change s.at (s.at + 1 + length vs) u.at second at_turns;
             }
 
         pub iterate_answer : {last : ℕ} → last ≡ lastly_from → (x : Reached) (two final : List ℤ) → two ≡ set one s.at new

@@ -221,8 +221,8 @@ module _ {bytes : List ℕ} {old given : List ℤ} (changes : Store) (h : Starta
           → Answers (length out) ((m >>= ended given h.ready.program.types h.ready.header) >>= within (length out)) a after
       handed (accepted v) g = absurd (accepted_refused (sym g.sound.goes ∙ f))
       handed (refused x) g =
-          let is-q : reason_of q ≡ x = ap reason_of (reason_of_lem (sym f ∙ g)) ∙ reason_back x in
-          subst (λ (n : ℕ). Answers n (refused x) a after) same (subst (λ (y : Paper.Refusal). Answers (length one) (refused y) a after) is-q w)
+          let is_q : reason_of q ≡ x = ap reason_of (reason_of_lem (sym f ∙ g)) ∙ reason_back x in
+          subst (λ (n : ℕ). Answers n (refused x) a after) same (subst (λ (y : Paper.Refusal). Answers (length one) (refused y) a after) is_q w)
 
   module _ (f : r.outcome ≡ Accepted) where
     -- the visit that the code has made

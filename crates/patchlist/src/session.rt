@@ -1,6 +1,6 @@
 // The header of a session, and how many words it has.
 ghost use Rattle.std.specs.Prelude.{◌≡◌, ◌+◌, ◌*◌, ◌≤◌, length};
-ghost use Rattle.patchlist.specs.Session.{opens as opensBy};
+ghost use Rattle.patchlist.specs.Session.{opens as opens_by};
 
 use table::access::pair;
 
@@ -17,7 +17,7 @@ pub const MOST_WORDS: usize = 2081;
 
 // Whether the header is right, and the table is there whole.
 pub fn opens(s: &[u8]) -> bool
-    ensures { result ≡ opensBy s.now }
+    ensures { result ≡ opens_by s.now }
 {
     if s.len() < TABLE_AT {
         return false;

@@ -88,7 +88,7 @@ pub record Found (bytes : List ℕ) (p : Program) (inputs : List ℤ) (limit : �
   pub fits : (room : ℕ) → size ≤ room → Accepts p outputs steps (call_run bytes inputs limit room)
   pub short : (room : ℕ) → room < size → (call_run bytes inputs limit room).answer.number ≡ 10
 
-module _ (bytes : List ℕ) (p : Program) (checked : check bytes ≡ accepted p) (inputs : List ℤ) (inputs-fit : fit p.types inputs ≡ true)
+module _ (bytes : List ℕ) (p : Program) (checked : check bytes ≡ accepted p) (inputs : List ℤ) (inputs_fit : fit p.types inputs ≡ true)
     (limit : ℤ) (in_range : between (pos 1) most_steps limit ≡ true) {outputs : List ℤ} {steps : ℕ} (d : Derived p inputs limit outputs steps) where
   sound : Sound p
   sound = holds_of (subst (Holds Sound) checked (check_sound bytes))
@@ -106,11 +106,11 @@ module _ (bytes : List ℕ) (p : Program) (checked : check bytes ≡ accepted p)
 
   finishes : finish_run bytes inputs limit ≡ accepted end
   unfolding finish_run end
-  finishes = rw (checked, inputs-fit, in_range, found.1) refl
+  finishes = rw (checked, inputs_fit, in_range, found.1) refl
 
   room_enough : length p.types ≤ length d.store
   room_enough =
-      let fine : Fine p.types (padded inputs) = padded_fine p.types inputs sound.few inputs-fit in
+      let fine : Fine p.types (padded inputs) = padded_fine p.types inputs sound.few inputs_fit in
       let k : Kept p.types (mentions p.root) (padded inputs) d.store = holds_of (rw found.1 at
       (run_keeps p.types (mentions p.root) p.root sound.typed (λ v m. m) (nat_abs limit) (padded inputs) fine.good)) in
       subst (λ n. length p.types ≤ n) (sym (k.long ∙ fine.long)) sound.few

@@ -58,12 +58,12 @@ abbrev types_y : List Ty
 types_y = Ty.number ∷ []
 
 -- By the variables read, y keeps its change 4; by the rules it ends with change 0, and so does a rerun.
-pub skipping-by-reads-is-wrong :
+pub skipping_by_reads_is_wrong :
     (new_changes (visit_by (reads one) set_y (walk types_y set_y) true 100 (pos 4 ∷ []) entry_y) ≡ pos 4 ∷ [])
     × (new_changes (visit set_y (walk types_y set_y) true 100 (pos 4 ∷ []) entry_y) ≡ pos 0 ∷ [])
     × (difference types_y (store_of (run set_y 100 (pos 9 ∷ []))) (store_of (run set_y 100 (pos 5 ∷ []))) ≡ pos 0 ∷ [])
 unfolding computing visit_by one set_y entry_y difference
-skipping-by-reads-is-wrong = (refl, refl, refl)
+skipping_by_reads_is_wrong = (refl, refl, refl)
 
 -- ---- "Snapshots of the whole store. A skipped part would keep an unrelated variable's old value."
 
@@ -90,13 +90,13 @@ if_b vs store = words_of (run_if_by vs 3 (Expression.variable 0 0) (Statement.sk
 
 -- With variable 1 moved from 5 to 6 the skip rule copies the entry: of the whole store it keeps 5 where a rerun has 6, of the
 -- mentioned variables it is the rerun's.
-pub whole-snapshots-are-wrong :
+pub whole_snapshots_are_wrong :
     (unchanged (mentions (Statement.if 3 (Expression.variable 0 0) (Statement.skip 1) (Statement.skip 2))) (pos 0 ∷ pos 1 ∷ []) ≡ true)
     × (if_b (0 ∷ 1 ∷ []) (pos 1 ∷ pos 5 ∷ []) ≡ pos 3 ∷ pos 11 ∷ pos 2 ∷ pos 1 ∷ pos 1 ∷ pos 5 ∷ pos 1 ∷ pos 5 ∷ pos 1 ∷ pos 3 ∷ pos 1 ∷ [])
     × (if_b (0 ∷ 1 ∷ []) (pos 1 ∷ pos 6 ∷ []) ≡ pos 3 ∷ pos 11 ∷ pos 2 ∷ pos 1 ∷ pos 1 ∷ pos 6 ∷ pos 1 ∷ pos 6 ∷ pos 1 ∷ pos 3 ∷ pos 1 ∷ [])
     × (if_b (0 ∷ []) (pos 1 ∷ pos 5 ∷ []) ≡ if_b (0 ∷ []) (pos 1 ∷ pos 6 ∷ []))
 unfolding computing run_if_by
-whole-snapshots-are-wrong = (refl, refl, refl, refl)
+whole_snapshots_are_wrong = (refl, refl, refl, refl)
 
 -- ---- "The product's change as three terms of document 000: change times change can pass 64 bits."
 
@@ -111,13 +111,13 @@ three_terms left left' right right' =
 
 -- All four operands in range, the left from lowest to highest and the right from 1 to lowest: the terms add up to the change, but
 -- the third passes 64 bits. The new product, the old one and their difference do not.
-pub three-terms-are-wrong :
+pub three_terms_are_wrong :
     (map (in_type Ty.number) (lowest ∷ highest ∷ pos 1 ∷ lowest ∷ []) ≡ true ∷ true ∷ true ∷ true ∷ [])
     × (foldr ◌+ℤ◌ (pos 0) (three_terms lowest highest (pos 1) lowest) ≡ (highest *ℤ lowest) -ℤ (lowest *ℤ pos 1))
     × (map fits64 (three_terms lowest highest (pos 1) lowest) ≡ true ∷ true ∷ false ∷ [])
     × (map fits64 ((highest *ℤ lowest) ∷ (lowest *ℤ pos 1) ∷ ((highest *ℤ lowest) -ℤ (lowest *ℤ pos 1)) ∷ []) ≡ true ∷ true ∷ true ∷ [])
 unfolding computing fits64 three_terms
-three-terms-are-wrong = (refl, refl, refl, refl)
+three_terms_are_wrong = (refl, refl, refl, refl)
 
 -- ---- "Leaving the entries of a dropped branch or iteration behind."
 
@@ -160,7 +160,7 @@ abbrev lowered : Walk → Outcome Visited
 lowered w = visit root_p w true 100 (negsuc 1 ∷ pos 0 ∷ []) (drop 7 record_p)
 
 -- The words left behind are no words of the rerun on 0 10; dropped as the rules say, the visit's words are the rerun's.
-pub leaving-behind-is-wrong :
+pub leaving_behind_is_wrong :
     (new_words (lowered (walk_dropping keeping types_p 5 (Expression.variable 0 0) body_p))
     ≡ pos 5 ∷ pos 20 ∷ pos 1 ∷ pos 0 ∷ pos 0 ∷ pos 10
     ∷ pos 4 ∷ pos 5 ∷ pos 1 ∷ pos 10 ∷ pos 2 ∷ pos 2 ∷ pos 12 ∷ pos 4 ∷ pos 5 ∷ pos 1 ∷ pos 12 ∷ pos 2 ∷ pos 2 ∷ pos 14 ∷ [])
@@ -168,4 +168,4 @@ pub leaving-behind-is-wrong :
     × (new_words (lowered (walk_dropping shrunk types_p 5 (Expression.variable 0 0) body_p)) ≡ words_of (run root_p 100 (pos 0 ∷ pos 10 ∷ [])))
     × (lowered (walk_dropping shrunk types_p 5 (Expression.variable 0 0) body_p) ≡ lowered (walk types_p root_p))
 unfolding computing record_p keeping walk_dropping
-leaving-behind-is-wrong = (refl, refl, refl, refl)
+leaving_behind_is_wrong = (refl, refl, refl, refl)

@@ -151,9 +151,9 @@ module _ {bytes : List ℕ} {base node : ℕ} {changes old : List ℤ} {from end
       unfolding operand_of moved ty_of
       operand_moved {z} e =
           let new = chosen_in (in_type Ty.number (plus Ty.number was x)) (plus Ty.number was x) (sym moves ∙ e) in
-          let is-new : kept z ≡ plus Ty.number was x = ap (λ (w : ℤ). kept w) new.1 ∙ plain (plus Ty.number was x) new.0 in
+          let is_new : kept z ≡ plus Ty.number was x = ap (λ (w : ℤ). kept w) new.1 ∙ plain (plus Ty.number was x) new.0 in
           for_each bytes node (λ d. ShiftedAs (operand_of d was changes (part old from end)) (Is (kept z) n) out at after) here
-          (rw (g.comes, new.0) (ap₂ {C = Shifted} Is is-new g.long, g.lays))
+          (rw (g.comes, new.0) (ap₂ {C = Shifted} Is is_new g.long, g.lays))
 
   -- ---- leaves
 

@@ -232,7 +232,7 @@ module _ (bytes : List ℕ) (p : Program) (checked : check bytes ≡ accepted p)
       let w = numbered s.kind n in
       let number : byte bytes (place_of bytes i) ≡ number_of_kind s.kind = sym (node_kind bytes i) ∙ s.number in
       let named : names (byte bytes (place_of bytes i)) ≡ names_one s.kind = ap names number ∙ w.named in
-      let places-are : children_by (some s.kind) n ≡ take (get_or places (byte bytes (place_of bytes i)) 0) (fields bytes (place_of bytes i)) =
+      let places_are : children_by (some s.kind) n ≡ take (get_or places (byte bytes (place_of bytes i)) 0) (fields bytes (place_of bytes i)) =
       w.children ∙ ap₂ (λ (k : ℕ) (fs : List ℕ). take (get_or places k 0) fs) (sym number) (node_fields bytes i) in
       let below : (c : ℕ) (r : Part) → c < i → part_at bytes c ≡ some r → Rises (length (types_of bytes)) (vars_of r) = λ c r l f. rises_at c r f in
       let all : vars_at bytes i ≡ with_own (names_one s.kind) n.tag (together (vars_at bytes) (children_by (some s.kind) n)) =
@@ -240,9 +240,9 @@ module _ (bytes : List ℕ) (p : Program) (checked : check bytes ≡ accepted p)
       record {
         known = rw number w.known;
         few = rw number w.few;
-        lower = subst (Below i) places-are (built_children i q below s.kind s.built);
+        lower = subst (Below i) places_are (built_children i q below s.kind s.built);
         own = λ t. rw (node_tag bytes i) at (built_own i q below s.kind s.built (sym named ∙ t));
-        all = rw (named, ← places-are, ← (node_tag bytes i)) all;
+        all = rw (named, ← places_are, ← (node_tag bytes i)) all;
       }
 
   pub mentioning : (i : ℕ) → i < nodes bytes → Mentioning i

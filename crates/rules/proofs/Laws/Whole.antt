@@ -92,10 +92,10 @@ only_test true r next h rest = rest
 only_test false r next h rest = refuses h
 
 -- the one or the other of two, put to the same use
-pub only_choose : {A B : Type 0} {ns : List ℕ} (b : Bool) (one two : B) (use-of : B → Outcome A) → Only ns (use-of one) → Only ns (use-of two)
-    → Only ns (use-of (choose b one two))
-only_choose true one two use-of h k = h
-only_choose false one two use-of h k = k
+pub only_choose : {A B : Type 0} {ns : List ℕ} (b : Bool) (one two : B) (use_of : B → Outcome A) → Only ns (use_of one) → Only ns (use_of two)
+    → Only ns (use_of (choose b one two))
+only_choose true one two use_of h k = h
+only_choose false one two use_of h k = k
 
 -- ---- the table check: 1 to 5
 

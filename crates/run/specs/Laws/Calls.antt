@@ -98,12 +98,12 @@ module _ {bytes : List ℕ} {inputs : List ℤ} {limit : ℤ} (h : Startable byt
   pub begins : {w n most : ℕ} {values : List ℤ} {lists : List ℕ} → SFits w64 limit → w ≡ variables bytes → n ≡ nodes bytes
       → most ≡ nat_abs (to_z w64 (of_z w64 limit)) → values ≡ padded (take w inputs)
       → Lists bytes lists → Begun w (n - 1) most values lists
-  begins {w} fits few nodes-are most-is padding listed =
+  begins {w} fits few nodes_are most_is padding listed =
       let counted : w ≡ v = few ∙ count_is in
       record {
         counted = counted;
-        rooted = ap (λ (i : ℕ). i - 1) nodes-are;
-        limits = most-is ∙ ap nat_abs (to_z-of_z w64 limit fits);
+        rooted = ap (λ (i : ℕ). i - 1) nodes_are;
+        limits = most_is ∙ ap nat_abs (to_z-of_z w64 limit fits);
         stored = padding ∙ ap padded (take_all w inputs (omega (arith, counted, inputs_long)));
         listed = listed;
       }
@@ -151,8 +151,8 @@ module _ {bytes : List ℕ} {inputs : List ℤ} {limit : ℤ} (h : Startable byt
               → Answers (length out) ((o >>= λ d. accepted (finished v inputs (nat_abs limit) d)) >>= within (length out)) a after
           handed (accepted d) g = absurd (accepted_refused (sym g.accepts ∙ f))
           handed (refused r) g =
-              let is-q : reason_of q ≡ r = ap reason_of (reason_of_lem (sym f ∙ g)) ∙ reason_back r in
-              subst (λ (n : ℕ). Answers n (refused r) a after) same (subst (λ (x : Paper.Refusal). Answers (length one) (refused x) a after) is-q w')
+              let is_q : reason_of q ≡ r = ap reason_of (reason_of_lem (sym f ∙ g)) ∙ reason_back r in
+              subst (λ (n : ℕ). Answers n (refused r) a after) same (subst (λ (x : Paper.Refusal). Answers (length one) (refused x) a after) is_q w')
 
       module _ (f : ran.outcome ≡ Accepted) where
         abbrev got : RunGot (run p.root (nat_abs limit) (padded inputs)) ran out most (3 + 2 * w) one

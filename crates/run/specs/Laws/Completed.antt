@@ -11,7 +11,7 @@ use Rattle.rules.specs.Outcome.{accepted}
 use Rattle.rules.specs.Value.{zeros, most_variables, padded}
 use Rattle.rules.specs.Patch.{Counts, steps_of, all_fresh}
 use Rattle.rules.specs.Run.{Done, headed, record_of}
-use Rattle.rules.specs.Call.{Answer as Paper-Answer, answered}
+use Rattle.rules.specs.Call.{Answer as PaperAnswer, answered}
 use Rattle.table.specs.Paper.{number_of, answer_of}
 use Rattle.table.specs.declared.answer.Outcome.{Outcome}
 use Rattle.table.specs.declared.answer.Outcome.TheVariants.{Accepted}
@@ -109,9 +109,9 @@ module _ {v : ℕ} {inputs : List ℤ} {limit : ℕ} {ran : Ran} {now : List ℤ
         → answer_of r ≡ (answered (length now) (accepted (finished v inputs limit d))).answer
     unfolding answered all_fresh
     answer_is r a b w u f l vs cs =
-        ap₂ {C = Paper-Answer} (λ (o : Outcome) (n : ℕ). record { number = number_of o; steps = n; counts = record { walked = r.walked; reused = r.reused; fresh = r.fresh }; length = r.length; values = r.values; changes = r.changes }) a (b ∙ steps_are ∙ sym (all_fresh_lem d.steps))
-        ∙ ap₂ {C = Paper-Answer} (λ (c : Counts) (n : ℕ). record { number = 0; steps = steps_of (all_fresh d.steps); counts = c; length = n; values = r.values; changes = r.changes }) counts (l ∙ long)
-        ∙ ap₂ {C = Paper-Answer} (λ (ws zs : List ℤ). record { number = 0; steps = steps_of (all_fresh d.steps); counts = all_fresh d.steps; length = length words; values = ws; changes = zs }) (vs ∙ ap (λ (l : List ℤ). padded (take v l)) e.stores) cs
+        ap₂ {C = PaperAnswer} (λ (o : Outcome) (n : ℕ). record { number = number_of o; steps = n; counts = record { walked = r.walked; reused = r.reused; fresh = r.fresh }; length = r.length; values = r.values; changes = r.changes }) a (b ∙ steps_are ∙ sym (all_fresh_lem d.steps))
+        ∙ ap₂ {C = PaperAnswer} (λ (c : Counts) (n : ℕ). record { number = 0; steps = steps_of (all_fresh d.steps); counts = c; length = n; values = r.values; changes = r.changes }) counts (l ∙ long)
+        ∙ ap₂ {C = PaperAnswer} (λ (ws zs : List ℤ). record { number = 0; steps = steps_of (all_fresh d.steps); counts = all_fresh d.steps; length = length words; values = ws; changes = zs }) (vs ∙ ap (λ (l : List ℤ). padded (take v l)) e.stores) cs
       where
         counts : ◌≡◌ {A = Counts} (record { walked = r.walked; reused = r.reused; fresh = r.fresh }) (all_fresh d.steps)
         counts = ap₂ {C = Counts} (λ (x y : ℕ). record { walked = x; reused = y; fresh = r.fresh }) w u

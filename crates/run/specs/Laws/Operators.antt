@@ -77,12 +77,12 @@ tree_is : {u t : Ty} {d e : Expression} → expression u d ≡ expression t e �
 tree_is p = cc
 
 module _ (bytes : List ℕ) (p : Program) (checked : check bytes ≡ accepted p) (node : ℕ) (type : Ty) (tree : Expression)
-    (notOne : (node_at bytes node).kind ≡ 1 → ⊥) (notTwo : (node_at bytes node).kind ≡ 2 → ⊥) (notThree : (node_at bytes node).kind ≡ 3 → ⊥) where
+    (not_one : (node_at bytes node).kind ≡ 1 → ⊥) (not_two : (node_at bytes node).kind ≡ 2 → ⊥) (not_three : (node_at bytes node).kind ≡ 3 → ⊥) where
   by_kind : (k : Kind) → (node_at bytes node).kind ≡ number_of_kind k
       → Built (types_of bytes) (take node (parts_of bytes)) node (node_at bytes node) k (expression type tree) → Operands bytes node tree
-  by_kind number_constant e b = absurd (notOne e)
-  by_kind truth_constant e b = absurd (notTwo e)
-  by_kind variable e b = absurd (notThree e)
+  by_kind number_constant e b = absurd (not_one e)
+  by_kind truth_constant e b = absurd (not_two e)
+  by_kind variable e b = absurd (not_three e)
   by_kind (operator o) e b = record {
     o = o;
     l = b.0;

@@ -41,7 +41,7 @@ pub check_accepted : (bytes : List ℕ) {r : Outcome} → r ≡ Accepted → IsC
 unfolding IsCheck call_check
 check_accepted bytes e h = accepted_of (check bytes) (sym (ap number_of e) ∙ h)
 
-pub types_inside : (bytes : List ℕ) (accepted-as : (p : Program) × (check bytes ≡ accepted p)) → nodes_at bytes ≤ length bytes
+pub types_inside : (bytes : List ℕ) (accepted_as : (p : Program) × (check bytes ≡ accepted p)) → nodes_at bytes ≤ length bytes
 unfolding nodes_at header_length
 types_inside bytes (p, checked) = omega (arith, (sized bytes p checked).whole)
 
@@ -53,12 +53,12 @@ module _ (bytes : List ℕ) (inputs : List ℤ) (limit : ℤ) where
   abbrev behind : Program → Bool → Bool → Paper.Outcome Program
   behind p f l = need f store_wrong >>= λ u. need l limit_wrong >>= λ u₂. accepted p
 
-  module _ (accepted-as : (p : Program) × (check bytes ≡ accepted p)) where
+  module _ (accepted_as : (p : Program) × (check bytes ≡ accepted p)) where
     abbrev p : Program
-    p = accepted-as.0
+    p = accepted_as.0
 
     abbrev checked : check bytes ≡ accepted p
-    checked = accepted-as.1
+    checked = accepted_as.1
 
     tests_are : tests bytes inputs limit ≡ behind p (fit (types_of bytes) inputs) (between (pos 1) most_steps limit)
     unfolding tests

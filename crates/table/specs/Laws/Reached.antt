@@ -71,7 +71,7 @@ none_made wrong e = refl
 
 module _ (bytes : List ℕ) (v n : ℕ) (head : Headed bytes v n) (types : check_types (type_bytes bytes) ≡ accepted tt)
     (i : ℕ) (low : i < n) (sorts heights : List ℕ) (r : Reached bytes i sorts heights)
-    (x : Table.Node) (read : x ≡ read_node (drop (16 + v + 8 * i) bytes)) (f : Form) (f-is : f ≡ form (kind_of x.kind)) where
+    (x : Table.Node) (read : x ≡ read_node (drop (16 + v + 8 * i) bytes)) (f : Form) (f_is : f ≡ form (kind_of x.kind)) where
   next : drop i (nodes_of bytes) ≡ x ∷ drop (suc i) (nodes_of bytes)
   next = rw read (node_next bytes v n i head.v_is head.n_is low)
 
@@ -79,16 +79,16 @@ module _ (bytes : List ℕ) (v n : ℕ) (head : Headed bytes v n) (types : check
   long = omega (arith, head.long)
 
   made_next : Made (make_kind (types_of bytes) r.parts (length r.parts) x (kind_of x.kind)) (sort_by bytes v f x sorts) (tall f x r.parts)
-  made_next = rw f-is (kind_made bytes v (types_count bytes v head.v_is long) (types_are bytes v head.v_is long types) r.parts sorts r.sorted (length r.parts) x (kind_of x.kind))
+  made_next = rw f_is (kind_made bytes v (types_count bytes v head.v_is long) (types_are bytes v head.v_is long types) r.parts sorts r.sorted (length r.parts) x (kind_of x.kind))
 
   pub node_wrong_lem : (s : ℕ) → s ≡ sort_by bytes v f x sorts → s ≡ 3 → IsDepth (tree_of bytes) 0
   unfolding tree_of make_all
-  node_wrong_lem s s-is e = rw (r.same, next, none_made made_next (sym s-is ∙ e)) Told.none
+  node_wrong_lem s s_is e = rw (r.same, next, none_made made_next (sym s_is ∙ e)) Told.none
 
-  module _ (s h : ℕ) (s-is : s ≡ sort_by bytes v f x sorts) (some : s ≡ 3 → ⊥)
-      (h-is : h ≡ height_by f x heights) (room : i < length sorts) (room₂ : i < length heights) where
+  module _ (s h : ℕ) (s_is : s ≡ sort_by bytes v f x sorts) (some : s ≡ 3 → ⊥)
+      (h_is : h ≡ height_by f x heights) (room : i < length sorts) (room₂ : i < length heights) where
     new : PartMade (make_kind (types_of bytes) r.parts (length r.parts) x (kind_of x.kind)) (sort_by bytes v f x sorts) (tall f x r.parts)
-    new = part_made made_next (λ e. some (s-is ∙ e))
+    new = part_made made_next (λ e. some (s_is ∙ e))
 
     pub reached_more : Reached bytes (i + 1) (set sorts i s) (set heights i h)
     unfolding make_all
@@ -96,9 +96,9 @@ module _ (bytes : List ℕ) (v n : ℕ) (head : Headed bytes v n) (types : check
       parts = r.parts ++ new.part ∷ [];
       same = r.same ∙ rw (next, new.is, add-one i);
       count = length-append r.parts (new.part ∷ []) ∙ ap (λ k. k + 1) r.count;
-      sorted = told_next sort_in sorts 3 s i r.parts new.part r.count room (s-is ∙ new.sort) r.sorted;
+      sorted = told_next sort_in sorts 3 s i r.parts new.part r.count room (s_is ∙ new.sort) r.sorted;
       high = told_next (λ o. min 25 (height_in o)) heights 0 h i r.parts new.part r.count room₂
-          (h-is ∙ height_capped f x r.parts heights r.high ∙ ap (min 25) new.height) r.high;
+          (h_is ∙ height_capped f x r.parts heights r.high ∙ ap (min 25) new.height) r.high;
     }
 
 -- ---- the root

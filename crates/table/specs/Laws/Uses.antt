@@ -116,9 +116,9 @@ pub left_less : (bytes : List ℕ) (v n : ℕ) → Headed bytes v n → (i : ℕ
     → (x : Table.Node) → x ≡ read_node (drop (16 + v + 8 * i) bytes) → (f : Form) → f ≡ form (kind_of x.kind) → Counted counts (children_in f x) after
     → UsesLeft bytes (i + 1) after
 unfolding children
-left_less bytes v n head i low counts after left x read f f-is counted =
+left_less bytes v n head i low counts after left x read f f_is counted =
     let next : drop i (nodes_of bytes) ≡ x ∷ drop (suc i) (nodes_of bytes) = rw read (node_next bytes v n i head.v_is head.n_is low) in
-    let these : children_in f x ≡ children_by (kind_of x.kind) x = rw f-is (form_children (kind_of x.kind) x) in
+    let these : children_in f x ≡ children_by (kind_of x.kind) x = rw f_is (form_children (kind_of x.kind) x) in
     let split : (k : ℕ) → uses k (children (drop i (nodes_of bytes))) ≡ uses k (children_in f x) + uses k (children (drop (suc i) (nodes_of bytes)))
     = λ k. rw (next, these, uses_append k (children_by (kind_of x.kind) x) (children (drop (suc i) (nodes_of bytes)))) refl in
     record {
