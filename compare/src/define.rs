@@ -1,5 +1,9 @@
 //! Holding the definitions to a case file: each case becomes a theorem that
 //! is proved by computing it, in a scratch repository outside this one.
+//!
+//! The theorems stand beside the definitions in one crate, so a check starts
+//! once and nothing is built for a crate above; an error line names the file,
+//! which tells a theorem from a definition.
 
 use crate::case::Case;
 use std::collections::BTreeSet;
@@ -22,26 +26,26 @@ const RULES: [&str; 9] = [
     "Computing",
 ];
 
-/// The module of the marked cases.
-const PROMISES: [&str; 1] = ["Marked"];
+/// The module of the marked cases, which stands in the crate of the promises.
+const MARKED: &str = "Marked";
 
-/// How many crates the theorems are shared among, so that they are checked side by side.
-const CRATES: usize = 2;
+/// What the name of each module of theorems begins with.
+const CASES: &str = "Cases";
+
+/// How many modules are checked side by side.
+const JOBS: &str = "2";
 
 /// How many theorems stand in one module.
 const IN_MODULE: usize = 25;
 
 /// What every module of theorems opens with.
-const OPENING: &str = "use mathlib.Core.Path.{_≡_, refl}
-use Prim.Native.Nat.{ℕ}
-use mathlib.Core.List.{List, [], _∷_, _++_}
-use lib.IntN.{ℤ, pos, negsuc}
-use Rattle·rules.specs.Computing.{computing}
-use Rattle·rules.specs.Call.{Called, callCheck, callRun, callPatch}
+const OPENING: &str = "use Rattle.std.specs.Prelude.{◌≡◌, refl, List, [], ◌∷◌, ◌++◌, ℤ, pos, negsuc}
+use Rattle.rules.specs.Computing.{computing}
+use Rattle.rules.specs.Call.{Called, call_check, call_run, call_patch}
 
 -- an answer's words in the order of a case, then the buffer's
-flat : Called → List ℤ
-flat c = pos (c .answer .number) ∷ pos (c .answer .steps) ∷ pos (c .answer .counts .walked) ∷ pos (c .answer .counts .reused) ∷ pos (c .answer .counts .fresh) ∷ pos (c .answer .length) ∷ (c .answer .values ++ (c .answer .changes ++ c .buffer))
+unfoldable flat : Called → List ℤ
+flat c = pos c.answer.number ∷ pos c.answer.steps ∷ pos c.answer.counts.walked ∷ pos c.answer.counts.reused ∷ pos c.answer.counts.fresh ∷ pos c.answer.length ∷ (c.answer.values ++ (c.answer.changes ++ c.buffer))
 ";
 
 /// A scratch repository outside this one; it is removed when it is let go.
@@ -67,12 +71,12 @@ impl Scratch {
         Ok(scratch)
     }
 
-    // Add the marked cases, as one crate more.
+    // Add the marked cases, as one module more.
     pub fn add_marked(&self, root: &Path) -> Result<(), String> {
-        let list = self.folder.join("crates.txt");
-        copy_definitions("promises", &PROMISES, root, &self.folder)
+        let list = self.rules().join("specs/Lib.antt");
+        copy_modules("promises", &[MARKED], root, &self.rules())
             .and_then(|()| fs::read_to_string(&list))
-            .and_then(|text| fs::write(&list, text + "promises: numbers rules\n"))
+            .and_then(|text| fs::write(&list, text + &named(&[MARKED])))
             .map_err(of_scratch)
     }
 
@@ -84,9 +88,8 @@ impl Scratch {
     // Check the scratch repository; gives whether it passed, and what the check said.
     pub fn check(&self) -> Result<(bool, String), String> {
         let ran = Command::new("rt")
-            .arg("check")
-            .current_dir(&self.folder)
-            .env("RT_CUT", "400")
+            .args(["check", "--jobs", JOBS])
+            .current_dir(self.rules())
             .output()
             .map_err(|why| format!("rt: {why}"))?;
         let said = format!(
@@ -120,8 +123,12 @@ fn report(said: &str, count: usize) -> i32 {
         println!("case {number}: the definitions give another answer");
     }
     if failed.is_empty() {
-        for line in said.lines().filter(|line| line.contains("error")).take(5) {
-            println!("{line}");
+        let mut lines: Vec<&str> = said.lines().filter(|line| line.contains("error")).collect();
+        if lines.is_empty() {
+            lines = said.lines().collect();
+        }
+        for line in lines.iter().take(5) {
+            println!("{line:.400}");
         }
     }
     println!("define: {} of {count} cases fail", failed.len());
@@ -132,11 +139,27 @@ fn report(said: &str, count: usize) -> i32 {
 pub fn failures(said: &str) -> BTreeSet<usize> {
     said.lines()
         .filter_map(|line| {
-            let (_, behind) = line.split_once("error: `case-")?;
+            let (_, behind) = line.split_once("error: `case_")?;
             let digits: String = behind.chars().take_while(char::is_ascii_digit).collect();
             digits.parse().ok()
         })
         .collect()
+}
+
+// Whether the check refused the theorem of the marked cases.
+pub fn marked_fails(said: &str) -> bool {
+    said.contains("error: `marked_cases`")
+}
+
+// The errors in files of the definitions themselves.
+pub fn of_definitions(said: &str) -> impl Iterator<Item = &str> {
+    let modules = NUMBERS.iter().chain(&RULES);
+    let files: Vec<String> = modules
+        .map(|module| format!("specs/{module}.antt:"))
+        .collect();
+    said.lines().filter(move |line| {
+        line.contains("error:") && files.iter().any(|file| line.contains(file.as_str()))
+    })
 }
 
 // The repository that holds this folder, by its list of crates.
@@ -150,41 +173,29 @@ pub fn repository() -> Result<PathBuf, String> {
 
 // Write the definitions and the theorems as a repository of their own.
 fn write(cases: &[Case], root: &Path, scratch: &Path) -> std::io::Result<()> {
-    let mut list = "numbers:\nrules: numbers\n".to_string();
-    copy_definitions("numbers", &NUMBERS, root, scratch)?;
-    copy_definitions("rules", &RULES, root, scratch)?;
-    let share = cases.len().div_ceil(CRATES).max(1);
-    for (index, chunk) in cases.chunks(share).enumerate() {
-        let name = format!("cases{index}");
-        let _ = writeln!(list, "{name}: numbers rules");
-        write_crate(
-            chunk,
-            index * share + 1,
-            &scratch.join("crates").join(&name),
-        )?;
-    }
-    fs::write(scratch.join("crates.txt"), list)
-}
-
-// One crate of theorems; `first` is the line of its first case.
-fn write_crate(cases: &[Case], first: usize, folder: &Path) -> std::io::Result<()> {
     let parts = cases.len().div_ceil(IN_MODULE);
-    let modules: Vec<String> = (0..parts).map(|index| format!("Part{index}")).collect();
-    open_crate(folder, &modules)?;
-    for (index, chunk) in cases.chunks(IN_MODULE).enumerate() {
+    let theorems: Vec<String> = (0..parts).map(|part| format!("{CASES}{part}")).collect();
+    open_crate(&scratch.join("crates/numbers"), &named(&NUMBERS))?;
+    copy_modules("numbers", &NUMBERS, root, &scratch.join("crates/numbers"))?;
+    let rules = scratch.join("crates/rules");
+    open_crate(&rules, &(named(&RULES) + &named(&theorems)))?;
+    copy_modules("rules", &RULES, root, &rules)?;
+    let mut number = 0;
+    for (module, cases) in theorems.iter().zip(cases.chunks(IN_MODULE)) {
         let mut text = OPENING.to_string();
-        for (offset, case) in chunk.iter().enumerate() {
-            theorem(&mut text, first + index * IN_MODULE + offset, case);
+        for case in cases {
+            number += 1;
+            theorem(&mut text, number, case);
         }
-        fs::write(folder.join(format!("specs/Part{index}.antt")), text)?;
+        fs::write(rules.join(format!("specs/{module}.antt")), text)?;
     }
-    Ok(())
+    fs::write(scratch.join("crates.txt"), "numbers:\nrules: numbers\n")
 }
 
 // The theorem of one case.
 fn theorem(text: &mut String, number: usize, case: &Case) {
     let statement = match case {
-        Case::Table { table, number } => format!("callCheck ({}) ≡ {number}", bytes(table)),
+        Case::Table { table, number } => format!("call_check ({}) ≡ {number}", bytes(table)),
         Case::Run {
             table,
             limit,
@@ -192,7 +203,7 @@ fn theorem(text: &mut String, number: usize, case: &Case) {
             words,
             ..
         } => format!(
-            "flat (callRun ({}) ({}) ({}) {}) ≡ {}",
+            "flat (call_run ({}) ({}) ({}) {}) ≡ {}",
             bytes(table),
             list(inputs),
             integer(*limit),
@@ -206,7 +217,7 @@ fn theorem(text: &mut String, number: usize, case: &Case) {
             words,
             ..
         } => format!(
-            "flat (callPatch ({}) ({}) ({}) {}) ≡ {}",
+            "flat (call_patch ({}) ({}) ({}) {}) ≡ {}",
             bytes(table),
             list(old),
             list(changes),
@@ -216,7 +227,7 @@ fn theorem(text: &mut String, number: usize, case: &Case) {
     };
     let _ = writeln!(
         text,
-        "\ncase-{number} : {statement}\nunfolding computing flat\ncase-{number} = refl"
+        "\ncase_{number} : {statement}\nunfolding computing flat\ncase_{number} = refl"
     );
 }
 
@@ -243,16 +254,9 @@ fn integer(word: i64) -> String {
     }
 }
 
-// Copy a crate's modules of definitions.
-fn copy_definitions(
-    name: &str,
-    modules: &[&str],
-    root: &Path,
-    scratch: &Path,
-) -> std::io::Result<()> {
+// Copy modules of a crate into a folder of the scratch repository.
+fn copy_modules(name: &str, modules: &[&str], root: &Path, to: &Path) -> std::io::Result<()> {
     let from = root.join("crates").join(name).join("specs");
-    let to = scratch.join("crates").join(name);
-    open_crate(&to, modules)?;
     for module in modules {
         let file = format!("{module}.antt");
         fs::copy(from.join(&file), to.join("specs").join(&file))?;
@@ -260,14 +264,48 @@ fn copy_definitions(
     Ok(())
 }
 
-// A crate's folder with no code and a root module that names its modules.
-fn open_crate(folder: &Path, modules: &[impl std::fmt::Display]) -> std::io::Result<()> {
+// A crate's folder with no code, and what its root module names.
+fn open_crate(folder: &Path, named: &str) -> std::io::Result<()> {
     fs::create_dir_all(folder.join("src"))?;
     fs::create_dir_all(folder.join("specs"))?;
-    fs::write(folder.join("src/lib.rt"), "// No code.\n")?;
-    let root: String = modules
+    fs::write(folder.join("src/lib.rt"), "// No code.\n#![tactic(auto)]\n")?;
+    fs::write(folder.join("specs/Lib.antt"), named)
+}
+
+// The lines of a root module that name these modules.
+fn named(modules: &[impl std::fmt::Display]) -> String {
+    modules
         .iter()
         .map(|module| format!("pub mod {module}\n"))
-        .collect();
-    fs::write(folder.join("specs/Lib.antt"), root)
+        .collect()
+}
+
+#[cfg(test)]
+mod tests {
+    use super::*;
+
+    const SAID: &str = "note: x
+./specs/Cases0.antt:31:10: error: `case_6`: expected type
+  both types are shown computed
+./specs/Cases3.antt:9:1: error: `case_12`: as printed
+";
+
+    #[test]
+    fn theorems_that_fail_are_told_by_number() {
+        assert_eq!(failures(SAID), BTreeSet::from([6, 12]));
+        assert!(!marked_fails(SAID));
+        assert!(marked_fails(
+            "./specs/Marked.antt:85:5: error: `marked_cases`: expected"
+        ));
+    }
+
+    #[test]
+    fn a_definition_that_fails_is_told_by_its_file() {
+        let wrong = "./specs/Table.antt:66:18: error: `check_header`: `u17` is not in scope";
+        assert_eq!(of_definitions(SAID).count(), 0);
+        assert_eq!(
+            of_definitions(&format!("{SAID}{wrong}\n")).collect::<Vec<_>>(),
+            [wrong]
+        );
+    }
 }

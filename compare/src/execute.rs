@@ -3,7 +3,7 @@
 
 use crate::case::{parse, print_answer, print_call, Case};
 use std::io::Write;
-use std::path::{Path, PathBuf};
+use std::path::Path;
 use std::process::{Command, Output, Stdio};
 
 /// The kinds of a call in the stream (the head of `crates/calls/src/main.rt`).
@@ -118,7 +118,7 @@ pub fn ran(program: &Path, bytes: Vec<u8>) -> Result<Output, String> {
     if !program.is_file() {
         return Err(format!("{}: no such file", program.display()));
     }
-    let mut child = starter(program)
+    let mut child = Command::new(program)
         .stdin(Stdio::piped())
         .stdout(Stdio::piped())
         .spawn()
@@ -131,43 +131,4 @@ pub fn ran(program: &Path, bytes: Vec<u8>) -> Result<Output, String> {
     let output = child.wait_with_output().map_err(failed)?;
     let _ = writer.join();
     Ok(output)
-}
-
-// The command that starts a program as `rt` does: under the kit's loader and C
-// library, and by its emulator where the machine is no x86-64.
-fn starter(program: &Path) -> Command {
-    let Some(tools) = toolchain() else {
-        return Command::new(program);
-    };
-    let loader = tools.join("lib/ld-linux-x86-64.so.2");
-    let emulator = tools.join("bin/qemu-x86_64");
-    let mut command = if emulator.is_file() {
-        let mut command = Command::new(emulator);
-        command.arg(loader);
-        command
-    } else {
-        Command::new(loader)
-    };
-    command.arg("--library-path").arg(tools.join("lib"));
-    command.arg(program);
-    command
-}
-
-// The folder of the kit that `rt` belongs to with what is for this machine.
-fn toolchain() -> Option<PathBuf> {
-    let kit = match std::env::var_os("RATTLE_HOME") {
-        Some(home) => PathBuf::from(home),
-        None => {
-            let path = std::env::var_os("PATH")?;
-            let rt = std::env::split_paths(&path)
-                .map(|folder| folder.join("rt"))
-                .find(|file| file.is_file())?;
-            rt.canonicalize().ok()?.parent()?.parent()?.to_path_buf()
-        }
-    };
-    let tools = kit
-        .join("on")
-        .join(std::env::consts::ARCH)
-        .join("toolchain");
-    tools.is_dir().then_some(tools)
 }

@@ -20,8 +20,8 @@ const HELP: &str = "compare: an independent interpreter, and the cases it is com
                                  another copy of it, to the cases of a file
   compare execute FILE [PROGRAM]
                                  hold the product to the cases of a file, by the
-                                 program calls of this repository, which rt
-                                 builds, or by another
+                                 program calls of this repository, which `rt run`
+                                 in crates/calls builds, or by another
   compare stream FILE            write the cases of a file as the bytes that the
                                  program calls reads
   compare teeth FILE [NAME..]    try the named wrong edits of the definitions, or
@@ -172,11 +172,11 @@ fn command_define(file: &str, root: Option<&str>) -> Ended {
     }
 }
 
-// The program of this name that rt has built in this repository, or another.
+// The program of this name where `rt run` leaves it in this repository, or another.
 fn built(name: &str, other: Option<&str>) -> Result<std::path::PathBuf, String> {
     match other {
         Some(program) => Ok(std::path::PathBuf::from(program)),
-        None => Ok(define::repository()?.join("target/bin").join(name)),
+        None => Ok(define::repository()?.join(format!("crates/{name}/out/{name}"))),
     }
 }
 

@@ -15,7 +15,7 @@
 //! of several lines, and so are lines `new:`.
 
 use crate::case::Case;
-use crate::define::{failures, Scratch};
+use crate::define::{failures, marked_fails, of_definitions, Scratch};
 use std::collections::BTreeMap;
 use std::fs;
 use std::path::{Path, PathBuf};
@@ -202,11 +202,11 @@ fn found(passed: bool, said: &str) -> Found {
     if passed {
         return Found::NotCaught(String::new());
     }
-    if !said.contains("rt: rules proved") {
-        return Found::NoDefinition(errors(said));
+    let amiss: Vec<&str> = of_definitions(said).collect();
+    if !amiss.is_empty() {
+        return Found::NoDefinition(errors(&amiss.join("\n")));
     }
-    let failed = failures(said);
-    let marked = said.contains("error: `marked-cases`");
+    let (failed, marked) = (failures(said), marked_fails(said));
     if failed.is_empty() && !marked {
         return Found::NotCaught(errors(said));
     }
@@ -219,8 +219,8 @@ fn found(passed: bool, said: &str) -> Found {
 
 // The first errors that a check said.
 fn errors(said: &str) -> String {
-    let lines: Vec<&str> = said.lines().filter(|line| line.contains("error")).take(3).collect();
-    lines.join("\n")
+    let lines = said.lines().filter(|line| line.contains("error")).take(3);
+    lines.map(|line| format!("{line:.400}")).collect::<Vec<_>>().join("\n")
 }
 
 // Lines of their own, set in.
@@ -281,13 +281,25 @@ mod tests {
     }
 
     #[test]
+    fn every_edit_of_the_repository_applies() {
+        let root = Path::new(concat!(env!("CARGO_MANIFEST_DIR"), "/.."));
+        let edits = read_edits(&root.join(FOLDER)).unwrap();
+        assert_eq!(edits.len(), 96);
+        let wrong = edits.iter().filter_map(|edit| {
+            edited(edit, &root.join("crates/rules")).err().map(|why| format!("{}: {why}", edit.name))
+        });
+        assert_eq!(wrong.collect::<Vec<_>>(), Vec::<String>::new());
+    }
+
+    #[test]
     fn what_a_check_said_is_told_apart() {
         let said = |text: &str| found(false, text).columns().trim().to_string();
         assert_eq!(found(true, "").columns().trim(), "NOT CAUGHT");
-        assert_eq!(said("rt: rules NOT PROVED"), "NOT A DEFINITION");
-        assert_eq!(said("rt: rules proved (1 s)"), "NOT CAUGHT");
-        let cases = "x: error: `case-7`: y\nx: error: `case-12`: y\nrt: rules proved (1 s)";
+        assert_eq!(said("./specs/Run.antt:9:1: error: y"), "NOT A DEFINITION");
+        assert_eq!(said("rt: no space"), "NOT CAUGHT");
+        let cases = "./specs/Cases0.antt:1:1: error: `case_7`: y\n./specs/Cases0.antt:2:1: error: `case_12`: y";
         assert_eq!(said(cases), "2      7  no");
-        assert_eq!(said("x: error: `marked-cases`: y\nrt: rules proved (1 s)"), "0      -  yes");
+        assert_eq!(said(&format!("./specs/Run.antt:9:1: error: y\n{cases}")), "NOT A DEFINITION");
+        assert_eq!(said("./specs/Marked.antt:1:1: error: `marked_cases`: y"), "0      -  yes");
     }
 }
