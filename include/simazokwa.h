@@ -63,7 +63,7 @@
  *     as it stands. After a refused patch the old record is as it was, and the new buffer is all zeros.
  *
  * Linking
- *     C or C++, x86-64 Linux: cc game.c target/staticlib/libsimazokwa.a (`rt staticlib simazokwa` makes it). ELF, System
+ *     C or C++, x86-64 Linux: cc game.c target/c/libsimazokwa.a (`tests/c/build target/c` makes it). ELF, System
  *     V calls, no AVX, and no unwind tables. The code is position-independent, so it may go into a shared library too.
  */
 #ifndef SIMAZOKWA_H
