@@ -1,5 +1,5 @@
 -- What a refusal leaves and what an acceptance leaves, and the order of the refusal numbers of document 01.
--- A run and a patch are spoken of together, as a `Request` in a room of so many words (`in_room`, `rules/specs/Laws/Whole.antt`).
+-- A run and a patch are spoken of together, as a `Request` in a room of so many words (`in_room`, `rules/proofs/Laws/Whole.antt`).
 -- The proof: a call comes to an end, then the room decides (`ends_so`); the orders are the lines of the definitions, read off.
 -- Assumes nothing.
 use Rattle.std.specs.Prelude.{◌≡◌, refl, ℕ, zero, suc, ◌+◌, ◌-◌, ◌≤◌, ◌<◌, false, List, [], ◌∷◌, ◌++◌, length, take, leb, ℤ, pos, nat_abs}

@@ -1,2 +1,2 @@
-// Theorems alone, in specs/: what the user was promised.
+// No code: theorems in specs/ and proofs/, what the user was promised.
 #![tactic(auto)]

@@ -2,6 +2,7 @@
 -- Assumes nothing.
 use Prim.Native.Nat.{◌+◌, ◌≤◌}
 use mathlib.Core.Path.{sym, ap, subst, ◌∙◌}
+use native.Mathlib.Omega.{arith}
 use Rattle.patchlist.proofs.Sessions.{short, table_off, words_off, too_many, end_decides}
 use Rattle.patchlist.proofs.session.opens.Goals as goal
 
@@ -15,7 +16,7 @@ pub returns-then-pair-end : goal.returns-then-pair-end
 returns-then-pair-end c = words_off _ _ _ c.pair-2.ensures.0 (ap (8 +◌) c.pair-end.ensures.0) c.if-pair-end.true
 
 pub returns-then-pair-gt-MOST_PATCHES : goal.returns-then-pair-gt-MOST_PATCHES
-returns-then-pair-gt-MOST_PATCHES c = too_many _ _ c.pair-3.ensures.0 c.if-pair-gt-MOST_PATCHES.true
+returns-then-pair-gt-MOST_PATCHES c = too_many _ _ c.pair-3.ensures.0 (omega (arith, c.if-pair-gt-MOST_PATCHES.true))
 
 pub returns : goal.returns
 returns c =

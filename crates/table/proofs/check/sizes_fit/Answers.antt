@@ -1,6 +1,7 @@
 -- `table::check::sizes_fit` meets its contract: the tests in a row are those of `sizes_fit`.
 -- Assumes nothing.
 use mathlib.Core.Path.{◌∙◌}
+use native.Mathlib.Omega.{arith}
 use lib.Dec.{leb}
 use borrow.Author.Tests.{lt-leb, le-leb}
 use Rattle.table.specs.Told.{sizes_fit}
@@ -15,7 +16,7 @@ pub returns-then-v-gt-MOST_VARIABLES : goal.returns-then-v-gt-MOST_VARIABLES
 unfolding sizes_fit
 returns-then-v-gt-MOST_VARIABLES c =
     let v = c.args.v in
-    later (leb 1 v) _ (here (leb v 32) _ (lt-leb v 32 c.if-v-gt-MOST_VARIABLES.true))
+    later (leb 1 v) _ (here (leb v 32) _ (lt-leb v 32 (omega (arith, c.if-v-gt-MOST_VARIABLES.true))))
 
 pub returns-then-n-lt1 : goal.returns-then-n-lt1
 unfolding sizes_fit

@@ -1,5 +1,5 @@
 -- `table::mentioned::flags_of` meets its contract. The kind, the count of children and the flags that they set are those of the
--- node's bytes (`kind_is`, `children-are`), and what these flags say of the node's variables is in `Listing`.
+-- node's bytes (`kind_is`, `children_are`), and what these flags say of the node's variables is in `Listing`.
 -- Assumes nothing.
 use mathlib.Core.Path.{◌≡◌, sym, ap, ap₂, ◌∙◌, subst}
 use Prim.Native.Nat.{ℕ, ◌+◌}
