@@ -1,4 +1,5 @@
--- `branch` in the cycle: the head of the if, and then the branch, kept or flipped.
+-- The proof of the cycle of calls round `visit`: each answer is a law of `Visits`, `Pays`, `Kinded`, `Sequences`, `Ifs`, `Branches`,
+-- `Looped`, `Repeats`, `Iterations` or `Loops`, at what the calls before it gave.
 -- Assumes nothing.
 use mathlib.Core.Path.{◌≡◌, sym, ap, ◌∙◌, ap₂, subst, refl}
 use native.Mathlib.Omega.{arith}
@@ -37,6 +38,8 @@ use Rattle.patch.proofs.Iterations.{SoFar, so_far_none, turns_all, again_turnabl
 use Rattle.patch.proofs.Visits.{visit_broken, visit_sound, visit_skipped, visit_payable, visit_paid}
 use Rattle.patch.proofs.statement.+branch_iterate_kept_looped_parts_pay_sequence_turn_turns_visit.Goals as goal
 
+-- `branch` in the cycle: the head of the if, and then the branch, kept or flipped.
+
 pub branch-fork-test-requires : goal.branch-fork-test-requires
 branch-fork-test-requires t c = c.requires
 
@@ -74,9 +77,7 @@ branch-returns-else-change-eq0 t c =
     (λ e. c.if-change-eq0.false (ap (of_z w64) e)) back
     c.flipped.result _ c.flipped.ensures
 
--- ========
 -- `iterate` in the cycle: the iterations that stay are patched, the count is set in front, and the rest follow.
--- Assumes nothing.
 
 pub iterate-overflow_mul-node : goal.iterate-overflow_mul-node
 iterate-overflow_mul-node t c = omega (arith, node_bytes c.requires.entered.known)
@@ -189,9 +190,7 @@ iterate-returns t c =
     (subst (λ (n : ℕ). EndsTo c.args.t.now c.args.lists.now c.args.node c.child_b-body.result (count_of c.requires.count.head.word - n) (n - count_of c.requires.count.head.word) c.last_of.result c.args.old.now c.args.end c.turns-gone.result c.ended.result c.put.new.out c.ended.new.out) next
     (subst (λ (n : ℕ). EndsTo c.args.t.now c.args.lists.now c.args.node c.child_b-body.result (n - c.times-next.result) (c.times-next.result - n) c.last_of.result c.args.old.now c.args.end c.turns-gone.result c.ended.result c.put.new.out c.ended.new.out) was c.ended.ensures))
 
--- ========
 -- `kept` in the cycle: the branch that the condition takes is visited, the snapshot after takes its changes, and the condition stays.
--- Assumes nothing.
 
 pub kept-offset_bounds-old-from : goal.kept-offset_bounds-old-from
 kept-offset_bounds-old-from t c = omega (arith, (forked_at c.requires).below.ordered, (forked_at c.requires).below.ends)
@@ -318,9 +317,7 @@ kept-returns t c =
     c.move_snapshot.result _ moves c.if-not-move_snapshot.false c.put.new.out
     (c.put.ensures ∙ ap (set c.move_snapshot.new.out c.args.reached.at) word)
 
--- ========
 -- `looped` in the cycle: the head of the repeat, and then its iterations.
--- Assumes nothing.
 
 pub looped-count-counted-requires : goal.looped-count-counted-requires
 looped-count-counted-requires t c = c.requires
@@ -346,9 +343,7 @@ looped-returns-in-Is t c =
     looped_answer c.requires c.count-counted.result _ _ c.count-counted.ensures c.in-Is.is back c.iterate.result _
     c.iterate.ensures
 
--- ========
 -- `parts` in the cycle: the function of the entry's kind is called, and its answer handed on.
--- Assumes nothing.
 
 pub parts-overflow_mul-node : goal.parts-overflow_mul-node
 parts-overflow_mul-node t c = omega (arith, node_bytes c.requires.known)
@@ -403,9 +398,7 @@ parts-shape_of-out t c = c.looped.auto.out
 pub parts-returns : goal.parts-returns
 parts-returns t c = c.looped.ensures
 
--- ========
 -- `pay` in the cycle: a step, the parts, and then the opening words in front of them.
--- Assumes nothing.
 
 pub pay-returns-then-left-eq0 : goal.pay-returns-then-left-eq0
 pay-returns-then-left-eq0 t c = pay_dry c.requires c.if-left-eq0.true c.stopped.result c.stopped.ensures c.args.out.now c.args.out.now
@@ -443,9 +436,7 @@ pay-returns t c =
     pay_answer c.requires c.stepped.ensures c.parts-inside.result c.args.out.now _ c.parts-inside.ensures c.in-Accepted.is
     c.«open».new.out c.«open».ensures
 
--- ========
 -- `sequence` in the cycle: the first entry, and the second from where the first ended.
--- Assumes nothing.
 
 pub sequence-overflow_mul-place : goal.sequence-overflow_mul-place
 sequence-overflow_mul-place t c = omega (arith, node_bytes c.requires.known)
@@ -489,9 +480,7 @@ sequence-returns t c =
     (read_node_lem c.requires.known (λ n. n.b) c.child_b.ensures)
     c.visit.result _ c.visit.ensures
 
--- ========
 -- `turn` in the cycle: the body is visited, and the snapshot behind it takes its changes.
--- Assumes nothing.
 
 pub turn-visit-gone-requires : goal.turn-visit-gone-requires
 turn-visit-gone-requires t c = (omega (arith, c.decreases), turn_visitable c.requires)
@@ -513,9 +502,7 @@ pub turn-returns : goal.turn-returns
 turn-returns t c =
     turn_answer c.requires c.visit-gone.result _ _ c.visit-gone.ensures c.in-Accepted.is c.snapped.result _ c.snapped.ensures
 
--- ========
 -- `turns` in the cycle. The loop's invariant: so many iterations have come to this; its measure is the iterations left.
--- Assumes nothing.
 
 pub turns-loop-i-init : goal.turns-loop-i-init
 turns-loop-i-init t c = (omega arith, λ h. so_far_none h c.args.count c.args.out.now)
@@ -550,9 +537,7 @@ turns-returns t c =
     let so_far : SoFar c.requires c.args.count c.args.out.now c.loop-i.i c.loop-i.so_far c.loop-i.out = c.loop-i.invariant.1 c.requires in
     turns_all c.requires c.args.count _ c.loop-i.i c.loop-i.so_far c.loop-i.out so_far c.loop-i-test.false c.loop-i.invariant.0
 
--- ========
 -- `visit` in the cycle: the entry is met, and then skipped, or paid for and walked.
--- Assumes nothing.
 
 pub visit-meet-met-requires : goal.visit-meet-met-requires
 visit-meet-met-requires t c = (c.requires.sound.inside, (row_known c.requires.known).inside)

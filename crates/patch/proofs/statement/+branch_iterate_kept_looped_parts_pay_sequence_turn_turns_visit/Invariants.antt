@@ -37,7 +37,6 @@ abbrev pub decreases-turn : goal.decreases-turn
 decreases-turn l = 8 * l.body + 8
 
 -- `turns` in the cycle. The loop's invariant: so many iterations have come to this; its measure is the iterations left.
--- Assumes nothing.
 
 abbrev pub invariant-turns-loop-i : goal.invariant-turns-loop-i
 invariant-turns-loop-i l = (l.i ≤ l.count) × ((h : Turnable l.t l.base l.lists l.node l.body l.old l.end l.initial.so_far) → SoFar h l.count l.initial.out l.i l.so_far l.out)

@@ -1,4 +1,5 @@
--- `operand` in the cycle: the change of its expression, added to its old value.
+-- The proof of the cycle of calls {shift, operate, operand}: each answer is a law of `Shifts` or `Operators`, at what the calls before it
+-- gave.
 -- Assumes nothing.
 use native.Mathlib.Omega.{arith}
 use Rattle.pieces.specs.Laws.Shifts.{Change, change_got, operand_refused, movable, operand_broken, operand_moved, node_bytes, node_read_lem, variable_below, variable_shift, constant_shift}
@@ -14,6 +15,8 @@ use Rattle.rules.specs.Value.{at}
 use Rattle.run.specs.Code.{IsOperator}
 use Rattle.pieces.proofs.Recalling.{recalls_back}
 use Rattle.pieces.proofs.expression.+operand_operate_shift.Goals as goal
+
+-- `operand` in the cycle: the change of its expression, added to its old value.
 
 pub operand-shift-shifted-requires : goal.operand-shift-shifted-requires
 operand-shift-shifted-requires t c = (omega (arith, c.decreases), c.requires.0)
@@ -45,9 +48,7 @@ operand-returns t c =
     let change : Change c.requires.0 c.in-Is.change c.in-Is.length c.args.out.now c.shift-shifted.new.out = change_got c.requires.0 c.shift-shifted.result _ _ c.shift-shifted.ensures c.in-Is.is in
     operand_moved c.requires.0 change c.args.was c.requires.1 c.moved-new.ensures c.in-Is-new.is
 
--- ========
 -- `operate` in the cycle: the left operand's new value and place, then the right one's, then the result; a refusal is handed up.
--- Assumes nothing.
 
 pub operate-overflow_mul-place : goal.operate-overflow_mul-place
 operate-overflow_mul-place t c = omega (arith, node_bytes c.requires.0)
@@ -206,9 +207,7 @@ operate-returns t c =
     let kind_here : c.kind.result ≡ (node_at c.args.t.now c.args.node).kind = node_read_lem c.requires.0 (λ n. n.kind) c.kind.ensures in
     operator_answer operating left right kind_here c.settle.ensures
 
--- ========
 -- `shift` in the cycle: a constant has no change, a variable has its own, and an operator with its old operands is handed to `operate`.
--- Assumes nothing.
 
 pub shift-overflow_mul-place : goal.shift-overflow_mul-place
 shift-overflow_mul-place t c = omega (arith, node_bytes c.requires)

@@ -1,4 +1,4 @@
--- `evaluate` in the cycle: a leaf is answered at once, and what is no leaf is handed to `operate`.
+-- The proof of the cycle of calls {evaluate, operate}: each answer is a law of `Expressions`, at what the calls before it gave.
 -- Assumes nothing.
 use native.Mathlib.Omega.{arith}
 use lib.IntN.{pos}
@@ -7,6 +7,8 @@ use Rattle.run.specs.Laws.Expressions.{bytes_inside, no_leaf, constant_answer, t
 use mathlib.Core.Path.{◌∙◌}
 use Rattle.run.specs.Laws.Operators.{left_below, left_evaluable, left_refused, GotLeft, got_left, right_below, right_evaluable, right_refused, GotRight, got_right, finishable, operator_answer}
 use Rattle.run.proofs.expression.+evaluate_operate.Goals as goal
+
+-- `evaluate` in the cycle: a leaf is answered at once, and what is no leaf is handed to `operate`.
 
 pub evaluate-overflow_mul-place : goal.evaluate-overflow_mul-place
 evaluate-overflow_mul-place t c = omega (arith, bytes_inside c.requires)

@@ -1,4 +1,5 @@
--- `branch` in the cycle: the snapshot before, the condition behind the room for the snapshot after, and then the branch taken.
+-- The proof of the cycle of calls round `statement`: each answer is a law of `Compound`, `Sequences`, `Branches`, `Iterations` or
+-- `Loops`, at what the calls before it gave.
 -- Assumes nothing.
 use mathlib.Core.Path.{refl, ◌∙◌, ◌≡◌}
 use native.Mathlib.Omega.{arith}
@@ -10,6 +11,8 @@ use Rattle.run.specs.Laws.Iterations.{Iterated, iterated_none, iterated_long, it
 use Rattle.run.specs.Laws.Sequences.{first_below, first_runnable, first_refused, GotFirst, got_first, second_below, second_runnable, sequence_answer}
 use Rattle.run.specs.Laws.Taken.{take_below, take_runnable, take_listed, take_refused, take_answer}
 use Rattle.run.proofs.statement.+branch_looped_parts_repeat_sequence_statement_take.Goals as goal
+
+-- `branch` in the cycle: the snapshot before, the condition behind the room for the snapshot after, and then the branch taken.
 
 pub branch-overflow_mul-place : goal.branch-overflow_mul-place
 branch-overflow_mul-place t c = omega (arith, node_bytes c.requires.inner.known)

@@ -28,7 +28,6 @@ abbrev pub decreases-take : goal.decreases-take
 decreases-take l = 4 * l.node
 
 -- `repeat` in the cycle. The loop's invariant: so many iterations are run and laid down; its measure is the iterations left.
--- Assumes nothing.
 
 abbrev pub invariant-repeat-loop-i : goal.invariant-repeat-loop-i
 invariant-repeat-loop-i l = (l.i ≤ l.count) × ((h : Repeatable l.t l.base l.lists l.node l.body l.initial.so_far.store.values l.left l.at) → Iterated h l.count l.initial.out l.i l.so_far l.out)
