@@ -10,14 +10,26 @@ use Rattle.patch.proofs.Nodes.{node_bytes, row_known, read_node_lem}
 use Rattle.patch.proofs.Heads.{head_asked, HeadGot, head_got}
 use Rattle.patch.proofs.Counts.{number_byte, count_headless, count_below, count_number, count_asked, count_answer}
 use Rattle.patch.proofs.parts.count.Goals as goal
+use Rattle.patch.proofs.parts.count.Goals.{After-head_fits, Else-not-head_fits, After-child_a}
+
+abbrev laid : (c : After-head_fits) → List ℤ
+laid c = c.head_fits.new.out
+
+-- the head that was read, and the count's node
+first : (c : Else-not-head_fits) → let laid : List ℤ = c.head_fits.new.out in HeadGot c.requires Ty.number c.args.out.now laid
+first c =
+    let laid : List ℤ = c.head_fits.new.out in
+    head_got c.requires 0 Ty.number number_byte c.args.out.now laid _ c.head_fits.ensures c.if-not-head_fits.false
+
+counted : (c : After-child_a) → c.child_a.result ≡ (node_at c.args.t.now c.args.node).a
+counted c = read_node_lem c.requires.known (λ n. n.a) c.child_a.ensures
 
 pub head_fits-requires : goal.head_fits-requires
 head_fits-requires c = head_asked c.requires
 
 pub returns-then-not-head_fits : goal.returns-then-not-head_fits
 returns-then-not-head_fits c =
-    let laid : List ℤ = c.head_fits.new.out in
-    count_headless c.requires c.args.out.now laid _ c.head_fits.ensures c.if-not-head_fits.true _
+    count_headless c.requires c.args.out.now (laid (goal.at.returns-then-not-head_fits c).After-head_fits) _ c.head_fits.ensures c.if-not-head_fits.true _
 
 pub width-w-requires : goal.width-w-requires
 width-w-requires c = row_known c.requires.known
@@ -33,22 +45,14 @@ child_a-requires c = node_bytes c.requires.known
 
 pub bounds-old-from : goal.bounds-old-from
 bounds-old-from c =
-    let laid : List ℤ = c.head_fits.new.out in
-    let first : HeadGot c.requires Ty.number c.args.out.now laid = head_got c.requires 0 Ty.number number_byte c.args.out.now laid _ c.head_fits.ensures c.if-not-head_fits.false in
-    count_below c.requires first
+    count_below c.requires (first (goal.at.bounds-old-from c).Else-not-head_fits)
 
 pub operand-requires : goal.operand-requires
 operand-requires c =
-    let laid : List ℤ = c.head_fits.new.out in
-    let first : HeadGot c.requires Ty.number c.args.out.now laid = head_got c.requires 0 Ty.number number_byte c.args.out.now laid _ c.head_fits.ensures c.if-not-head_fits.false in
-    let counted : c.child_a.result ≡ (node_at c.args.t.now c.args.node).a = read_node_lem c.requires.known (λ n. n.a) c.child_a.ensures in
-    let g = first in
-    (count_asked c.requires g c.width-w.ensures.0 counted, count_number c.requires g)
+    let g = (first (goal.at.operand-requires c).Else-not-head_fits) in
+    (count_asked c.requires g c.width-w.ensures.0 (counted (goal.at.operand-requires c).After-child_a), count_number c.requires g)
 
 pub returns : goal.returns
 returns c =
-    let laid : List ℤ = c.head_fits.new.out in
-    let first : HeadGot c.requires Ty.number c.args.out.now laid = head_got c.requires 0 Ty.number number_byte c.args.out.now laid _ c.head_fits.ensures c.if-not-head_fits.false in
-    let counted : c.child_a.result ≡ (node_at c.args.t.now c.args.node).a = read_node_lem c.requires.known (λ n. n.a) c.child_a.ensures in
-    let g = first in
-    count_answer c.requires g c.width-w.ensures.0 counted c.operand.result _ c.operand.ensures
+    let g = (first (goal.at.returns c).Else-not-head_fits) in
+    count_answer c.requires g c.width-w.ensures.0 (counted (goal.at.returns c).After-child_a) c.operand.result _ c.operand.ensures

@@ -11,6 +11,10 @@ use Rattle.patch.proofs.Nodes.{row_known, node_bytes}
 use Rattle.patch.proofs.Branches.{forked_at}
 use Rattle.patch.proofs.Flips.{flip_passed, flip_word, turned_fits, turned, flip_room, flip_listed, flip_runnable, flip_refused, flip_settles, flip_answer}
 use Rattle.patch.proofs.parts.flipped.Goals as goal
+use Rattle.patch.proofs.parts.flipped.Goals.{After-width-w}
+
+room : (c : After-width-w) → let s = c.args in (s.reached.at + 1 + 2 * c.width-w.result + s.length ≤ farthest) × (s.reached.from + 1 + 2 * c.width-w.result + s.length ≤ length s.old.now)
+room c = flip_room c.requires.0 c.width-w.ensures.0
 
 pub width-w-requires : goal.width-w-requires
 width-w-requires c = row_known c.requires.0.entered.known
@@ -20,8 +24,7 @@ started-store-requires c = let h = c.requires.0 in ((forked_at h).first, h.enter
 
 pub bounds-old-from : goal.bounds-old-from
 bounds-old-from c =
-    let room : let s = c.args in (s.reached.at + 1 + 2 * c.width-w.result + s.length ≤ farthest) × (s.reached.from + 1 + 2 * c.width-w.result + s.length ≤ length s.old.now) = flip_room c.requires.0 c.width-w.ensures.0 in
-    omega (arith, room.1)
+    omega (arith, (room (goal.at.bounds-old-from c).After-width-w).1)
 
 pub overflow_mul-node : goal.overflow_mul-node
 overflow_mul-node c = omega (arith, node_bytes c.requires.0.entered.known)
@@ -37,8 +40,7 @@ taken-other-requires c = node_bytes c.requires.0.entered.known
 
 pub overflow_add-at-3 : goal.overflow_add-at-3
 overflow_add-at-3 c =
-    let room : let s = c.args in (s.reached.at + 1 + 2 * c.width-w.result + s.length ≤ farthest) × (s.reached.from + 1 + 2 * c.width-w.result + s.length ≤ length s.old.now) = flip_room c.requires.0 c.width-w.ensures.0 in
-    omega (arith, room.0)
+    omega (arith, (room (goal.at.overflow_add-at-3 c).After-width-w).0)
 
 pub statement-ran-requires : goal.statement-ran-requires
 statement-ran-requires c =
@@ -47,31 +49,26 @@ statement-ran-requires c =
 
 pub overflow_add-at-in-Accepted : goal.overflow_add-at-in-Accepted
 overflow_add-at-in-Accepted c =
-    let room : let s = c.args in (s.reached.at + 1 + 2 * c.width-w.result + s.length ≤ farthest) × (s.reached.from + 1 + 2 * c.width-w.result + s.length ≤ length s.old.now) = flip_room c.requires.0 c.width-w.ensures.0 in
-    omega (arith, room.0)
+    omega (arith, (room (goal.at.overflow_add-at-in-Accepted c).After-width-w).0)
 
 pub overflow_add-at-in-Accepted-2 : goal.overflow_add-at-in-Accepted-2
 overflow_add-at-in-Accepted-2 c =
-    let room : let s = c.args in (s.reached.at + 1 + 2 * c.width-w.result + s.length ≤ farthest) × (s.reached.from + 1 + 2 * c.width-w.result + s.length ≤ length s.old.now) = flip_room c.requires.0 c.width-w.ensures.0 in
-    omega (arith, room.0)
+    omega (arith, (room (goal.at.overflow_add-at-in-Accepted-2 c).After-width-w).0)
 
 pub snapshot-requires : goal.snapshot-requires
 snapshot-requires c =
-    let room : let s = c.args in (s.reached.at + 1 + 2 * c.width-w.result + s.length ≤ farthest) × (s.reached.from + 1 + 2 * c.width-w.result + s.length ≤ length s.old.now) = flip_room c.requires.0 c.width-w.ensures.0 in
-    flip_listed c.requires.0 _ (omega (arith, room.0))
+    flip_listed c.requires.0 _ (omega (arith, (room (goal.at.snapshot-requires c).After-width-w).0))
 
 pub plus-requires : goal.plus-requires
 plus-requires c = flip_passed c.requires.0 c.args.change c.requires.1
 
 pub overflow_add-from-in-Accepted : goal.overflow_add-from-in-Accepted
 overflow_add-from-in-Accepted c =
-    let room : let s = c.args in (s.reached.at + 1 + 2 * c.width-w.result + s.length ≤ farthest) × (s.reached.from + 1 + 2 * c.width-w.result + s.length ≤ length s.old.now) = flip_room c.requires.0 c.width-w.ensures.0 in
-    omega (arith, room.1)
+    omega (arith, (room (goal.at.overflow_add-from-in-Accepted c).After-width-w).1)
 
 pub overflow_add-from-in-Accepted-2 : goal.overflow_add-from-in-Accepted-2
 overflow_add-from-in-Accepted-2 c =
-    let room : let s = c.args in (s.reached.at + 1 + 2 * c.width-w.result + s.length ≤ farthest) × (s.reached.from + 1 + 2 * c.width-w.result + s.length ≤ length s.old.now) = flip_room c.requires.0 c.width-w.ensures.0 in
-    omega (arith, room.1)
+    omega (arith, (room (goal.at.overflow_add-from-in-Accepted-2 c).After-width-w).1)
 
 pub freshened-requires : goal.freshened-requires
 freshened-requires c =

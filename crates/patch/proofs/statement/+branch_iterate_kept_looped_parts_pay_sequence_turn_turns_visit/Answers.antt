@@ -37,6 +37,69 @@ use Rattle.patch.proofs.Loops.{turn_visitable, turn_refused, turn_sound, turn_an
 use Rattle.patch.proofs.Iterations.{SoFar, so_far_none, turns_all, again_turnable, again_refused, again_done}
 use Rattle.patch.proofs.Visits.{visit_broken, visit_sound, visit_skipped, visit_payable, visit_paid}
 use Rattle.patch.proofs.statement.+branch_iterate_kept_looped_parts_pay_sequence_turn_turns_visit.Goals as goal
+use Rattle.patch.proofs.statement.+branch_iterate_kept_looped_parts_pay_sequence_turn_turns_visit.Goals.{branch-In-Is, iterate-After-width-w, iterate-After-least-stay, iterate-After-child_b-body, iterate-After-advanced, iterate-After-times-next, iterate-After-last_of, kept-After-width-w, kept-After-taken-same, kept-After-advanced, sequence-After-child_a, turns-At-loop-i}
+
+-- the condition's change is passed as it is
+branch_back : (t : ℕ) (c : branch-In-Is t) → to_z w64 (of_z w64 c.in-Is.change) ≡ c.in-Is.change
+branch_back t c = word_back c.in-Is.change (omega arith)
+
+iterate_short : (t : ℕ) (c : iterate-After-width-w t) → length c.args.old.now ≤ farthest
+iterate_short t c = omega arith
+
+iterate_wide : (t : ℕ) (c : iterate-After-width-w t) → c.width-w.result ≡ length (list_at c.args.lists.now c.args.node)
+iterate_wide t c = c.width-w.ensures.0
+
+iterate_inside : (t : ℕ) (c : iterate-After-least-stay t) → c.args.reached.from + (1 + c.width-w.result + c.args.length) ≤ length c.args.old.now
+iterate_inside t c =
+    let wide : c.width-w.result ≡ length (list_at c.args.lists.now c.args.node) = c.width-w.ensures.0 in
+    omega (arith, wide, count_inside c.requires, c.requires.entered.sound.inside.ends)
+
+-- the body, as it was read
+iterate_body : (t : ℕ) (c : iterate-After-child_b-body t) → c.child_b-body.result ≡ (node_at c.args.t.now c.args.node).b
+iterate_body t c = read_node_lem c.requires.entered.known (λ n. n.b) c.child_b-body.ensures
+
+-- the walk behind the head
+iterate_step : (t : ℕ) (c : iterate-After-advanced t) → let s = c.args in AdvancedBy (1 + length (list_at s.lists.now s.node) + s.length) s.reached c.advanced.result
+iterate_step t c =
+    let wide : c.width-w.result ≡ length (list_at c.args.lists.now c.args.node) = c.width-w.ensures.0 in
+    subst (λ (n : ℕ). AdvancedBy (1 + n + c.args.length) c.args.reached c.advanced.result) wide c.advanced.ensures
+
+iterate_next : (t : ℕ) (c : iterate-After-times-next t) → c.times-next.result ≡ count_of c.requires.count.count.change
+iterate_next t c = c.times-next.ensures ∙ ap count_of (to_z-of_z w64 _ c.ranges.new ∙ c.requires.is)
+
+iterate_last : (t : ℕ) (c : iterate-After-last_of t) → let s = c.args in c.last_of.result ≡ last_of c.least-stay.result (s.reached.from + 1) c.turns-gone.result.from (length (list_at s.lists.now s.node))
+iterate_last t c =
+    let wide : c.width-w.result ≡ length (list_at c.args.lists.now c.args.node) = c.width-w.ensures.0 in
+    c.last_of.ensures ∙ ap (last_of c.least-stay.result (c.args.reached.from + 1) c.turns-gone.result.from) wide
+
+-- how many variables the node mentions
+kept_wide : (t : ℕ) (c : kept-After-width-w t) → c.width-w.result ≡ length (list_at c.args.lists.now c.args.node)
+kept_wide t c = c.width-w.ensures.0
+
+-- the head is inside, in the old record and in the new one
+kept_inside : (t : ℕ) (c : kept-After-taken-same t) → c.args.reached.from + (1 + 2 * c.width-w.result + c.args.length) ≤ length c.args.old.now
+kept_inside t c =
+    let wide : c.width-w.result ≡ length (list_at c.args.lists.now c.args.node) = c.width-w.ensures.0 in
+    omega (arith, wide, fork_inside c.requires, c.requires.entered.sound.inside.ends)
+
+kept_near_here : (t : ℕ) (c : kept-After-taken-same t) → c.args.reached.at + (1 + 2 * c.width-w.result + c.args.length) ≤ farthest
+kept_near_here t c =
+    let wide : c.width-w.result ≡ length (list_at c.args.lists.now c.args.node) = c.width-w.ensures.0 in
+    let inside : c.args.reached.from + (1 + 2 * c.width-w.result + c.args.length) ≤ length c.args.old.now = omega (arith, wide, fork_inside c.requires, c.requires.entered.sound.inside.ends) in
+    omega (arith, inside, c.requires.entered.sound.place)
+
+-- the walk behind the head
+kept_step : (t : ℕ) (c : kept-After-advanced t) → let s = c.args in AdvancedBy (1 + 2 * length (list_at s.lists.now s.node) + s.length) s.reached c.advanced.result
+kept_step t c =
+    let wide : c.width-w.result ≡ length (list_at c.args.lists.now c.args.node) = c.width-w.ensures.0 in
+    subst (λ (n : ℕ). AdvancedBy (1 + 2 * n + c.args.length) c.args.reached c.advanced.result) wide c.advanced.ensures
+
+-- the first child, as it was read
+sequence_first : (t : ℕ) (c : sequence-After-child_a t) → c.child_a.result ≡ (node_at c.args.t.now c.args.node).a
+sequence_first t c = read_node_lem c.requires.known (λ n. n.a) c.child_a.ensures
+
+turns_so_far : (t : ℕ) (c : turns-At-loop-i t) → SoFar c.requires c.args.count c.args.out.now c.loop-i.i c.loop-i.so_far c.loop-i.out
+turns_so_far t c = c.loop-i.invariant.1 c.requires
 
 -- `branch` in the cycle: the head of the if, and then the branch, kept or flipped.
 
@@ -52,9 +115,8 @@ branch-shape_of-out-then-change-eq0 t c = c.kept.auto.out ∙ c.fork-test.auto.o
 
 pub branch-returns-then-change-eq0 : goal.branch-returns-then-change-eq0
 branch-returns-then-change-eq0 t c =
-    let back : to_z w64 (of_z w64 c.in-Is.change) ≡ c.in-Is.change = word_back c.in-Is.change (omega arith) in
     branch_kept c.requires c.fork-test.result _ _ c.fork-test.ensures c.in-Is.is
-    (sym back ∙ ap (to_z w64) c.if-change-eq0.true) c.kept.result _ c.kept.ensures
+    (sym (branch_back t (goal.at.branch-returns-then-change-eq0 t c).In-Is) ∙ ap (to_z w64) c.if-change-eq0.true) c.kept.result _ c.kept.ensures
 
 pub branch-flipped-requires : goal.branch-flipped-requires
 branch-flipped-requires t c =
@@ -72,9 +134,8 @@ branch-shape_of-out-else-change-eq0 t c = c.flipped.auto.out ∙ c.fork-test.aut
 
 pub branch-returns-else-change-eq0 : goal.branch-returns-else-change-eq0
 branch-returns-else-change-eq0 t c =
-    let back : to_z w64 (of_z w64 c.in-Is.change) ≡ c.in-Is.change = word_back c.in-Is.change (omega arith) in
     branch_flipped c.requires c.fork-test.result _ _ c.fork-test.ensures c.in-Is.is
-    (λ e. c.if-change-eq0.false (ap (of_z w64) e)) back
+    (λ e. c.if-change-eq0.false (ap (of_z w64) e)) (branch_back t (goal.at.branch-returns-else-change-eq0 t c).In-Is)
     c.flipped.result _ c.flipped.ensures
 
 -- `iterate` in the cycle: the iterations that stay are patched, the count is set in front, and the rest follow.
@@ -93,8 +154,7 @@ iterate-width-w-requires t c = row_known c.requires.entered.known
 
 pub iterate-offset_bounds-old-from : goal.iterate-offset_bounds-old-from
 iterate-offset_bounds-old-from t c =
-    let short : length c.args.old.now ≤ farthest = omega arith in
-    omega (arith, (counted_at c.requires).below.ordered, (counted_at c.requires).below.ends, short)
+    omega (arith, (counted_at c.requires).below.ordered, (counted_at c.requires).below.ends, (iterate_short t (goal.at.iterate-offset_bounds-old-from t c).After-width-w))
 
 pub iterate-bounds-old-from : goal.iterate-bounds-old-from
 iterate-bounds-old-from t c = omega (arith, (counted_at c.requires).below.ordered, (counted_at c.requires).below.ends)
@@ -104,26 +164,19 @@ iterate-overflow_add-w t c = omega (arith, c.width-w.ensures.1)
 
 pub iterate-overflow_add-w-2 : goal.iterate-overflow_add-w-2
 iterate-overflow_add-w-2 t c =
-    let wide : c.width-w.result ≡ length (list_at c.args.lists.now c.args.node) = c.width-w.ensures.0 in
-    let inside : c.args.reached.from + (1 + c.width-w.result + c.args.length) ≤ length c.args.old.now = omega (arith, wide, count_inside c.requires, c.requires.entered.sound.inside.ends) in
-    let short : length c.args.old.now ≤ farthest = omega arith in
-    omega (arith, inside, short)
+    omega (arith, (iterate_inside t (goal.at.iterate-overflow_add-w-2 t c).After-least-stay), (iterate_short t (goal.at.iterate-overflow_add-w-2 t c).After-width-w))
 
 pub iterate-advanced-requires : goal.iterate-advanced-requires
 iterate-advanced-requires t c =
-    let wide : c.width-w.result ≡ length (list_at c.args.lists.now c.args.node) = c.width-w.ensures.0 in
-    let inside : c.args.reached.from + (1 + c.width-w.result + c.args.length) ≤ length c.args.old.now = omega (arith, wide, count_inside c.requires, c.requires.entered.sound.inside.ends) in
-    let short : length c.args.old.now ≤ farthest = omega arith in
-    let near : c.args.reached.at + (1 + c.width-w.result + c.args.length) ≤ farthest = omega (arith, inside, c.requires.entered.sound.place) in
-    (omega (arith, inside, short), near)
+    let inside' = iterate_inside t (goal.at.iterate-advanced-requires t c).After-least-stay in
+    let near : c.args.reached.at + (1 + c.width-w.result + c.args.length) ≤ farthest = omega (arith, inside', c.requires.entered.sound.place) in
+    (omega (arith, inside', (iterate_short t (goal.at.iterate-advanced-requires t c).After-width-w)), near)
 
 pub iterate-turns-gone-requires : goal.iterate-turns-gone-requires
 iterate-turns-gone-requires t c =
-    let body : c.child_b-body.result ≡ (node_at c.args.t.now c.args.node).b = read_node_lem c.requires.entered.known (λ n. n.b) c.child_b-body.ensures in
-    let wide : c.width-w.result ≡ length (list_at c.args.lists.now c.args.node) = c.width-w.ensures.0 in
-    let step : let s = c.args in AdvancedBy (1 + length (list_at s.lists.now s.node) + s.length) s.reached c.advanced.result = subst (λ (n : ℕ). AdvancedBy (1 + n + c.args.length) c.args.reached c.advanced.result) wide c.advanced.ensures in
+    let body' = iterate_body t (goal.at.iterate-turns-gone-requires t c).After-child_b-body in
     let h = c.requires in
-    (omega (arith, c.decreases, body_below h body), turns_turnable h step body)
+    (omega (arith, c.decreases, body_below h body'), turns_turnable h (iterate_step t (goal.at.iterate-turns-gone-requires t c).After-advanced) body')
 
 pub iterate-shape_of-out-in_default : goal.iterate-shape_of-out-in_default
 iterate-shape_of-out-in_default t c =
@@ -132,42 +185,26 @@ iterate-shape_of-out-in_default t c =
 
 pub iterate-returns-in_default : goal.iterate-returns-in_default
 iterate-returns-in_default t c =
-    let wide : c.width-w.result ≡ length (list_at c.args.lists.now c.args.node) = c.width-w.ensures.0 in
-    let step : let s = c.args in AdvancedBy (1 + length (list_at s.lists.now s.node) + s.length) s.reached c.advanced.result = subst (λ (n : ℕ). AdvancedBy (1 + n + c.args.length) c.args.reached c.advanced.result) wide c.advanced.ensures in
-    let body : c.child_b-body.result ≡ (node_at c.args.t.now c.args.node).b = read_node_lem c.requires.entered.known (λ n. n.b) c.child_b-body.ensures in
     let was : c.times-was.result ≡ count_of c.requires.count.head.word = c.times-was.ensures ∙ ap count_of (to_z-of_z w64 _ (search rules) ∙ sym (counted_at c.requires).word) in
-    let next : c.times-next.result ≡ count_of c.requires.count.count.change = c.times-next.ensures ∙ ap count_of (to_z-of_z w64 _ c.ranges.new ∙ c.requires.is) in
-    let stay : c.least-stay.result ≡ min (count_of c.requires.count.head.word) (count_of c.requires.count.count.change) = c.least-stay.ensures ∙ ap₂ {C = ℕ} min was next in
-    iterate_refused c.requires step body stay c.turns-gone.result _ _ c.turns-gone.ensures c.in_default.is _
+    let stay : c.least-stay.result ≡ min (count_of c.requires.count.head.word) (count_of c.requires.count.count.change) = c.least-stay.ensures ∙ ap₂ {C = ℕ} min was (iterate_next t (goal.at.iterate-returns-in_default t c).After-times-next) in
+    iterate_refused c.requires (iterate_step t (goal.at.iterate-returns-in_default t c).After-advanced) (iterate_body t (goal.at.iterate-returns-in_default t c).After-child_b-body) stay c.turns-gone.result _ _ c.turns-gone.ensures c.in_default.is _
 
 pub iterate-overflow_add-from : goal.iterate-overflow_add-from
 iterate-overflow_add-from t c =
-    let wide : c.width-w.result ≡ length (list_at c.args.lists.now c.args.node) = c.width-w.ensures.0 in
-    let inside : c.args.reached.from + (1 + c.width-w.result + c.args.length) ≤ length c.args.old.now = omega (arith, wide, count_inside c.requires, c.requires.entered.sound.inside.ends) in
-    let short : length c.args.old.now ≤ farthest = omega arith in
-    omega (arith, inside, short)
+    omega (arith, (iterate_inside t (goal.at.iterate-overflow_add-from t c).After-least-stay), (iterate_short t (goal.at.iterate-overflow_add-from t c).After-width-w))
 
 pub iterate-last_of-requires : goal.iterate-last_of-requires
 iterate-last_of-requires t c =
-    let wide : c.width-w.result ≡ length (list_at c.args.lists.now c.args.node) = c.width-w.ensures.0 in
-    let step : let s = c.args in AdvancedBy (1 + length (list_at s.lists.now s.node) + s.length) s.reached c.advanced.result = subst (λ (n : ℕ). AdvancedBy (1 + n + c.args.length) c.args.reached c.advanced.result) wide c.advanced.ensures in
-    let body : c.child_b-body.result ≡ (node_at c.args.t.now c.args.node).b = read_node_lem c.requires.entered.known (λ n. n.b) c.child_b-body.ensures in
     let was : c.times-was.result ≡ count_of c.requires.count.head.word = c.times-was.ensures ∙ ap count_of (to_z-of_z w64 _ (search rules) ∙ sym (counted_at c.requires).word) in
-    let next : c.times-next.result ≡ count_of c.requires.count.count.change = c.times-next.ensures ∙ ap count_of (to_z-of_z w64 _ c.ranges.new ∙ c.requires.is) in
-    let stay : c.least-stay.result ≡ min (count_of c.requires.count.head.word) (count_of c.requires.count.count.change) = c.least-stay.ensures ∙ ap₂ {C = ℕ} min was next in
-    let behind : (c.least-stay.result ≡ 0 → ⊥) → c.width-w.result ≤ c.turns-gone.result.from = λ has. omega (arith, wide, iterate_behind c.requires step body stay c.turns-gone.result _ _ c.turns-gone.ensures c.in-Accepted.is has) in
+    let stay : c.least-stay.result ≡ min (count_of c.requires.count.head.word) (count_of c.requires.count.count.change) = c.least-stay.ensures ∙ ap₂ {C = ℕ} min was (iterate_next t (goal.at.iterate-last_of-requires t c).After-times-next) in
+    let behind : (c.least-stay.result ≡ 0 → ⊥) → c.width-w.result ≤ c.turns-gone.result.from = λ has. omega (arith, (iterate_wide t (goal.at.iterate-last_of-requires t c).After-width-w), iterate_behind c.requires (iterate_step t (goal.at.iterate-last_of-requires t c).After-advanced) (iterate_body t (goal.at.iterate-last_of-requires t c).After-child_b-body) stay c.turns-gone.result _ _ c.turns-gone.ensures c.in-Accepted.is has) in
     behind
 
 pub iterate-ended-requires : goal.iterate-ended-requires
 iterate-ended-requires t c =
-    let wide : c.width-w.result ≡ length (list_at c.args.lists.now c.args.node) = c.width-w.ensures.0 in
-    let step : let s = c.args in AdvancedBy (1 + length (list_at s.lists.now s.node) + s.length) s.reached c.advanced.result = subst (λ (n : ℕ). AdvancedBy (1 + n + c.args.length) c.args.reached c.advanced.result) wide c.advanced.ensures in
-    let body : c.child_b-body.result ≡ (node_at c.args.t.now c.args.node).b = read_node_lem c.requires.entered.known (λ n. n.b) c.child_b-body.ensures in
     let was : c.times-was.result ≡ count_of c.requires.count.head.word = c.times-was.ensures ∙ ap count_of (to_z-of_z w64 _ (search rules) ∙ sym (counted_at c.requires).word) in
-    let next : c.times-next.result ≡ count_of c.requires.count.count.change = c.times-next.ensures ∙ ap count_of (to_z-of_z w64 _ c.ranges.new ∙ c.requires.is) in
-    let stay : c.least-stay.result ≡ min (count_of c.requires.count.head.word) (count_of c.requires.count.count.change) = c.least-stay.ensures ∙ ap₂ {C = ℕ} min was next in
-    let last : let s = c.args in c.last_of.result ≡ last_of c.least-stay.result (s.reached.from + 1) c.turns-gone.result.from (length (list_at s.lists.now s.node)) = c.last_of.ensures ∙ ap (last_of c.least-stay.result (c.args.reached.from + 1) c.turns-gone.result.from) wide in
-    iterate_endable c.requires step body stay c.turns-gone.result _ _ c.turns-gone.ensures c.in-Accepted.is last
+    let stay : c.least-stay.result ≡ min (count_of c.requires.count.head.word) (count_of c.requires.count.count.change) = c.least-stay.ensures ∙ ap₂ {C = ℕ} min was (iterate_next t (goal.at.iterate-ended-requires t c).After-times-next) in
+    iterate_endable c.requires (iterate_step t (goal.at.iterate-ended-requires t c).After-advanced) (iterate_body t (goal.at.iterate-ended-requires t c).After-child_b-body) stay c.turns-gone.result _ _ c.turns-gone.ensures c.in-Accepted.is (iterate_last t (goal.at.iterate-ended-requires t c).After-last_of)
 
 pub iterate-shape_of-out : goal.iterate-shape_of-out
 iterate-shape_of-out t c =
@@ -177,17 +214,13 @@ iterate-shape_of-out t c =
 
 pub iterate-returns : goal.iterate-returns
 iterate-returns t c =
-    let wide : c.width-w.result ≡ length (list_at c.args.lists.now c.args.node) = c.width-w.ensures.0 in
-    let step : let s = c.args in AdvancedBy (1 + length (list_at s.lists.now s.node) + s.length) s.reached c.advanced.result = subst (λ (n : ℕ). AdvancedBy (1 + n + c.args.length) c.args.reached c.advanced.result) wide c.advanced.ensures in
-    let body : c.child_b-body.result ≡ (node_at c.args.t.now c.args.node).b = read_node_lem c.requires.entered.known (λ n. n.b) c.child_b-body.ensures in
+    let next' = iterate_next t (goal.at.iterate-returns t c).After-times-next in
     let was : c.times-was.result ≡ count_of c.requires.count.head.word = c.times-was.ensures ∙ ap count_of (to_z-of_z w64 _ (search rules) ∙ sym (counted_at c.requires).word) in
-    let next : c.times-next.result ≡ count_of c.requires.count.count.change = c.times-next.ensures ∙ ap count_of (to_z-of_z w64 _ c.ranges.new ∙ c.requires.is) in
-    let stay : c.least-stay.result ≡ min (count_of c.requires.count.head.word) (count_of c.requires.count.count.change) = c.least-stay.ensures ∙ ap₂ {C = ℕ} min was next in
-    let last : let s = c.args in c.last_of.result ≡ last_of c.least-stay.result (s.reached.from + 1) c.turns-gone.result.from (length (list_at s.lists.now s.node)) = c.last_of.ensures ∙ ap (last_of c.least-stay.result (c.args.reached.from + 1) c.turns-gone.result.from) wide in
-    iterate_answer c.requires step body stay c.turns-gone.result _ _ c.turns-gone.ensures c.in-Accepted.is last
+    let stay : c.least-stay.result ≡ min (count_of c.requires.count.head.word) (count_of c.requires.count.count.change) = c.least-stay.ensures ∙ ap₂ {C = ℕ} min was next' in
+    iterate_answer c.requires (iterate_step t (goal.at.iterate-returns t c).After-advanced) (iterate_body t (goal.at.iterate-returns t c).After-child_b-body) stay c.turns-gone.result _ _ c.turns-gone.ensures c.in-Accepted.is (iterate_last t (goal.at.iterate-returns t c).After-last_of)
     c.ended.result c.put.new.out _
     (c.put.ensures ∙ ap (set c.turns-gone.new.out c.args.reached.at) (to_z-of_z w64 _ c.ranges.new))
-    (subst (λ (n : ℕ). EndsTo c.args.t.now c.args.lists.now c.args.node c.child_b-body.result (count_of c.requires.count.head.word - n) (n - count_of c.requires.count.head.word) c.last_of.result c.args.old.now c.args.end c.turns-gone.result c.ended.result c.put.new.out c.ended.new.out) next
+    (subst (λ (n : ℕ). EndsTo c.args.t.now c.args.lists.now c.args.node c.child_b-body.result (count_of c.requires.count.head.word - n) (n - count_of c.requires.count.head.word) c.last_of.result c.args.old.now c.args.end c.turns-gone.result c.ended.result c.put.new.out c.ended.new.out) next'
     (subst (λ (n : ℕ). EndsTo c.args.t.now c.args.lists.now c.args.node c.child_b-body.result (n - c.times-next.result) (c.times-next.result - n) c.last_of.result c.args.old.now c.args.end c.turns-gone.result c.ended.result c.put.new.out c.ended.new.out) was c.ended.ensures))
 
 -- `kept` in the cycle: the branch that the condition takes is visited, the snapshot after takes its changes, and the condition stays.
@@ -218,88 +251,63 @@ kept-overflow_add-w t c = omega (arith, c.width-w.ensures.1)
 
 pub kept-overflow_add-w-2 : goal.kept-overflow_add-w-2
 kept-overflow_add-w-2 t c =
-    let wide : c.width-w.result ≡ length (list_at c.args.lists.now c.args.node) = c.width-w.ensures.0 in
-    let inside : c.args.reached.from + (1 + 2 * c.width-w.result + c.args.length) ≤ length c.args.old.now = omega (arith, wide, fork_inside c.requires, c.requires.entered.sound.inside.ends) in
-    omega (arith, inside)
+    omega (arith, (kept_inside t (goal.at.kept-overflow_add-w-2 t c).After-taken-same))
 
 pub kept-advanced-requires : goal.kept-advanced-requires
 kept-advanced-requires t c =
-    let wide : c.width-w.result ≡ length (list_at c.args.lists.now c.args.node) = c.width-w.ensures.0 in
-    let inside : c.args.reached.from + (1 + 2 * c.width-w.result + c.args.length) ≤ length c.args.old.now = omega (arith, wide, fork_inside c.requires, c.requires.entered.sound.inside.ends) in
-    let near : c.args.reached.at + (1 + 2 * c.width-w.result + c.args.length) ≤ farthest = omega (arith, inside, c.requires.entered.sound.place) in
-    (omega (arith, inside), near)
+    (omega (arith, (kept_inside t (goal.at.kept-advanced-requires t c).After-taken-same)), (kept_near_here t (goal.at.kept-advanced-requires t c).After-taken-same))
 
 pub kept-visit-gone-requires : goal.kept-visit-gone-requires
 kept-visit-gone-requires t c =
     let word : to_z w64 (of_z w64 (at c.args.old.now c.args.reached.from)) ≡ at c.args.old.now c.args.reached.from = to_z-of_z w64 _ (search rules) in
     let same : c.taken-same.result ≡ taken_node c.args.t.now c.args.node (holds c.requires.fork.condition) = let k = c.requires.entered.known in c.taken-same.ensures ∙ ap₂ {C = ℕ} (λ (x y : ℕ). choose (holds (to_z w64 (of_z w64 (at c.args.old.now c.args.reached.from)))) x y) (read_node_lem k (λ n. n.b) refl) (read_node_lem k (λ n. n.c) refl) ∙ ap (λ (z : ℤ). taken_node c.args.t.now c.args.node (holds z)) (word ∙ sym (forked_at c.requires).condition) in
-    let wide : c.width-w.result ≡ length (list_at c.args.lists.now c.args.node) = c.width-w.ensures.0 in
-    let step : let s = c.args in AdvancedBy (1 + 2 * length (list_at s.lists.now s.node) + s.length) s.reached c.advanced.result = subst (λ (n : ℕ). AdvancedBy (1 + 2 * n + c.args.length) c.args.reached c.advanced.result) wide c.advanced.ensures in
     let h = c.requires in
-    (omega (arith, c.decreases, same, branch_below h (holds h.fork.condition)), kept_visitable h step same)
+    (omega (arith, c.decreases, same, branch_below h (holds h.fork.condition)), kept_visitable h (kept_step t (goal.at.kept-visit-gone-requires t c).After-advanced) same)
 
 pub kept-shape_of-out-in_default : goal.kept-shape_of-out-in_default
 kept-shape_of-out-in_default t c = c.visit-gone.auto.out
 
 pub kept-returns-in_default : goal.kept-returns-in_default
 kept-returns-in_default t c =
-    let wide : c.width-w.result ≡ length (list_at c.args.lists.now c.args.node) = c.width-w.ensures.0 in
-    let step : let s = c.args in AdvancedBy (1 + 2 * length (list_at s.lists.now s.node) + s.length) s.reached c.advanced.result = subst (λ (n : ℕ). AdvancedBy (1 + 2 * n + c.args.length) c.args.reached c.advanced.result) wide c.advanced.ensures in
     let word : to_z w64 (of_z w64 (at c.args.old.now c.args.reached.from)) ≡ at c.args.old.now c.args.reached.from = to_z-of_z w64 _ (search rules) in
     let same : c.taken-same.result ≡ taken_node c.args.t.now c.args.node (holds c.requires.fork.condition) = let k = c.requires.entered.known in c.taken-same.ensures ∙ ap₂ {C = ℕ} (λ (x y : ℕ). choose (holds (to_z w64 (of_z w64 (at c.args.old.now c.args.reached.from)))) x y) (read_node_lem k (λ n. n.b) refl) (read_node_lem k (λ n. n.c) refl) ∙ ap (λ (z : ℤ). taken_node c.args.t.now c.args.node (holds z)) (word ∙ sym (forked_at c.requires).condition) in
-    kept_refused c.requires step same c.visit-gone.result _ _ c.visit-gone.ensures c.in_default.is _
+    kept_refused c.requires (kept_step t (goal.at.kept-returns-in_default t c).After-advanced) same c.visit-gone.result _ _ c.visit-gone.ensures c.in_default.is _
 
 pub kept-overflow_add-from : goal.kept-overflow_add-from
 kept-overflow_add-from t c =
-    let wide : c.width-w.result ≡ length (list_at c.args.lists.now c.args.node) = c.width-w.ensures.0 in
-    let inside : c.args.reached.from + (1 + 2 * c.width-w.result + c.args.length) ≤ length c.args.old.now = omega (arith, wide, fork_inside c.requires, c.requires.entered.sound.inside.ends) in
     let short : length c.args.old.now ≤ farthest = omega arith in
-    omega (arith, inside, short)
+    omega (arith, (kept_inside t (goal.at.kept-overflow_add-from t c).After-taken-same), short)
 
 pub kept-overflow_add-from-2 : goal.kept-overflow_add-from-2
 kept-overflow_add-from-2 t c =
-    let wide : c.width-w.result ≡ length (list_at c.args.lists.now c.args.node) = c.width-w.ensures.0 in
-    let inside : c.args.reached.from + (1 + 2 * c.width-w.result + c.args.length) ≤ length c.args.old.now = omega (arith, wide, fork_inside c.requires, c.requires.entered.sound.inside.ends) in
     let short : length c.args.old.now ≤ farthest = omega arith in
-    omega (arith, inside, short)
+    omega (arith, (kept_inside t (goal.at.kept-overflow_add-from-2 t c).After-taken-same), short)
 
 pub kept-overflow_add-at : goal.kept-overflow_add-at
 kept-overflow_add-at t c =
-    let wide : c.width-w.result ≡ length (list_at c.args.lists.now c.args.node) = c.width-w.ensures.0 in
-    let inside : c.args.reached.from + (1 + 2 * c.width-w.result + c.args.length) ≤ length c.args.old.now = omega (arith, wide, fork_inside c.requires, c.requires.entered.sound.inside.ends) in
-    let near : c.args.reached.at + (1 + 2 * c.width-w.result + c.args.length) ≤ farthest = omega (arith, inside, c.requires.entered.sound.place) in
-    omega (arith, near)
+    omega (arith, (kept_near_here t (goal.at.kept-overflow_add-at t c).After-taken-same))
 
 pub kept-overflow_add-at-2 : goal.kept-overflow_add-at-2
 kept-overflow_add-at-2 t c =
-    let wide : c.width-w.result ≡ length (list_at c.args.lists.now c.args.node) = c.width-w.ensures.0 in
-    let inside : c.args.reached.from + (1 + 2 * c.width-w.result + c.args.length) ≤ length c.args.old.now = omega (arith, wide, fork_inside c.requires, c.requires.entered.sound.inside.ends) in
-    let near : c.args.reached.at + (1 + 2 * c.width-w.result + c.args.length) ≤ farthest = omega (arith, inside, c.requires.entered.sound.place) in
-    omega (arith, near)
+    omega (arith, (kept_near_here t (goal.at.kept-overflow_add-at-2 t c).After-taken-same))
 
 pub kept-move_snapshot-requires : goal.kept-move_snapshot-requires
 kept-move_snapshot-requires t c =
-    let wide : c.width-w.result ≡ length (list_at c.args.lists.now c.args.node) = c.width-w.ensures.0 in
-    let standing : let s = c.args in Standing s.t.now s.lists.now s.node s.old.now (s.reached.from + 1 + c.width-w.result) = subst (λ (n : ℕ). Standing c.args.t.now c.args.lists.now c.args.node c.args.old.now (c.args.reached.from + 1 + n)) (sym wide) (forked_at c.requires).second in
-    let step : let s = c.args in AdvancedBy (1 + 2 * length (list_at s.lists.now s.node) + s.length) s.reached c.advanced.result = subst (λ (n : ℕ). AdvancedBy (1 + 2 * n + c.args.length) c.args.reached c.advanced.result) wide c.advanced.ensures in
+    let standing : let s = c.args in Standing s.t.now s.lists.now s.node s.old.now (s.reached.from + 1 + c.width-w.result) = subst (λ (n : ℕ). Standing c.args.t.now c.args.lists.now c.args.node c.args.old.now (c.args.reached.from + 1 + n)) (sym (kept_wide t (goal.at.kept-move_snapshot-requires t c).After-width-w)) (forked_at c.requires).second in
     let word : to_z w64 (of_z w64 (at c.args.old.now c.args.reached.from)) ≡ at c.args.old.now c.args.reached.from = to_z-of_z w64 _ (search rules) in
     let same : c.taken-same.result ≡ taken_node c.args.t.now c.args.node (holds c.requires.fork.condition) = let k = c.requires.entered.known in c.taken-same.ensures ∙ ap₂ {C = ℕ} (λ (x y : ℕ). choose (holds (to_z w64 (of_z w64 (at c.args.old.now c.args.reached.from)))) x y) (read_node_lem k (λ n. n.b) refl) (read_node_lem k (λ n. n.c) refl) ∙ ap (λ (z : ℤ). taken_node c.args.t.now c.args.node (holds z)) (word ∙ sym (forked_at c.requires).condition) in
-    let inside : c.args.reached.from + (1 + 2 * c.width-w.result + c.args.length) ≤ length c.args.old.now = omega (arith, wide, fork_inside c.requires, c.requires.entered.sound.inside.ends) in
-    let near : c.args.reached.at + (1 + 2 * c.width-w.result + c.args.length) ≤ farthest = omega (arith, inside, c.requires.entered.sound.place) in
-    (standing, (visited_near c.requires step same c.visit-gone.result _ _ c.visit-gone.ensures c.in-Accepted.is, omega (arith, near)))
+    (standing, (visited_near c.requires (kept_step t (goal.at.kept-move_snapshot-requires t c).After-advanced) same c.visit-gone.result _ _ c.visit-gone.ensures c.in-Accepted.is, omega (arith, (kept_near_here t (goal.at.kept-move_snapshot-requires t c).After-taken-same))))
 
 pub kept-shape_of-out-then-not-move_snapshot : goal.kept-shape_of-out-then-not-move_snapshot
 kept-shape_of-out-then-not-move_snapshot t c = c.move_snapshot.auto.out ∙ c.visit-gone.auto.out
 
 pub kept-returns-then-not-move_snapshot : goal.kept-returns-then-not-move_snapshot
 kept-returns-then-not-move_snapshot t c =
-    let wide : c.width-w.result ≡ length (list_at c.args.lists.now c.args.node) = c.width-w.ensures.0 in
-    let step : let s = c.args in AdvancedBy (1 + 2 * length (list_at s.lists.now s.node) + s.length) s.reached c.advanced.result = subst (λ (n : ℕ). AdvancedBy (1 + 2 * n + c.args.length) c.args.reached c.advanced.result) wide c.advanced.ensures in
     let word : to_z w64 (of_z w64 (at c.args.old.now c.args.reached.from)) ≡ at c.args.old.now c.args.reached.from = to_z-of_z w64 _ (search rules) in
     let same : c.taken-same.result ≡ taken_node c.args.t.now c.args.node (holds c.requires.fork.condition) = let k = c.requires.entered.known in c.taken-same.ensures ∙ ap₂ {C = ℕ} (λ (x y : ℕ). choose (holds (to_z w64 (of_z w64 (at c.args.old.now c.args.reached.from)))) x y) (read_node_lem k (λ n. n.b) refl) (read_node_lem k (λ n. n.c) refl) ∙ ap (λ (z : ℤ). taken_node c.args.t.now c.args.node (holds z)) (word ∙ sym (forked_at c.requires).condition) in
     let MovesAt : ℕ → Type 0 = λ n. let vs = list_at c.args.lists.now c.args.node in MovedAs (moved_all (types_of c.args.t.now) vs (olds c.args.old.now (c.args.reached.from + 1 + n) vs) c.visit-gone.result.changes.values) c.move_snapshot.result c.visit-gone.new.out (c.args.reached.at + 1 + n) c.move_snapshot.new.out in
-    let moves : MovesAt (length (list_at c.args.lists.now c.args.node)) = subst MovesAt wide c.move_snapshot.ensures in
-    kept_broken c.requires step same c.visit-gone.result _ _ c.visit-gone.ensures c.in-Accepted.is
+    let moves : MovesAt (length (list_at c.args.lists.now c.args.node)) = subst MovesAt (kept_wide t (goal.at.kept-returns-then-not-move_snapshot t c).After-width-w) c.move_snapshot.ensures in
+    kept_broken c.requires (kept_step t (goal.at.kept-returns-then-not-move_snapshot t c).After-advanced) same c.visit-gone.result _ _ c.visit-gone.ensures c.in-Accepted.is
     c.move_snapshot.result _ moves c.if-not-move_snapshot.true c.stopped.result c.stopped.ensures _
 
 pub kept-shape_of-out : goal.kept-shape_of-out
@@ -307,13 +315,11 @@ kept-shape_of-out t c = c.put.auto.out ∙ c.move_snapshot.auto.out ∙ c.visit-
 
 pub kept-returns : goal.kept-returns
 kept-returns t c =
-    let wide : c.width-w.result ≡ length (list_at c.args.lists.now c.args.node) = c.width-w.ensures.0 in
-    let step : let s = c.args in AdvancedBy (1 + 2 * length (list_at s.lists.now s.node) + s.length) s.reached c.advanced.result = subst (λ (n : ℕ). AdvancedBy (1 + 2 * n + c.args.length) c.args.reached c.advanced.result) wide c.advanced.ensures in
     let word : to_z w64 (of_z w64 (at c.args.old.now c.args.reached.from)) ≡ at c.args.old.now c.args.reached.from = to_z-of_z w64 _ (search rules) in
     let same : c.taken-same.result ≡ taken_node c.args.t.now c.args.node (holds c.requires.fork.condition) = let k = c.requires.entered.known in c.taken-same.ensures ∙ ap₂ {C = ℕ} (λ (x y : ℕ). choose (holds (to_z w64 (of_z w64 (at c.args.old.now c.args.reached.from)))) x y) (read_node_lem k (λ n. n.b) refl) (read_node_lem k (λ n. n.c) refl) ∙ ap (λ (z : ℤ). taken_node c.args.t.now c.args.node (holds z)) (word ∙ sym (forked_at c.requires).condition) in
     let MovesAt : ℕ → Type 0 = λ n. let vs = list_at c.args.lists.now c.args.node in MovedAs (moved_all (types_of c.args.t.now) vs (olds c.args.old.now (c.args.reached.from + 1 + n) vs) c.visit-gone.result.changes.values) c.move_snapshot.result c.visit-gone.new.out (c.args.reached.at + 1 + n) c.move_snapshot.new.out in
-    let moves : MovesAt (length (list_at c.args.lists.now c.args.node)) = subst MovesAt wide c.move_snapshot.ensures in
-    kept_answer c.requires step same c.visit-gone.result _ _ c.visit-gone.ensures c.in-Accepted.is
+    let moves : MovesAt (length (list_at c.args.lists.now c.args.node)) = subst MovesAt (kept_wide t (goal.at.kept-returns t c).After-width-w) c.move_snapshot.ensures in
+    kept_answer c.requires (kept_step t (goal.at.kept-returns t c).After-advanced) same c.visit-gone.result _ _ c.visit-gone.ensures c.in-Accepted.is
     c.move_snapshot.result _ moves c.if-not-move_snapshot.false c.put.new.out
     (c.put.ensures ∙ ap (set c.move_snapshot.new.out c.args.reached.at) word)
 
@@ -449,34 +455,31 @@ sequence-child_a-requires t c = node_bytes c.requires.known
 
 pub sequence-visit-first-requires : goal.sequence-visit-first-requires
 sequence-visit-first-requires t c =
-    let first : c.child_a.result ≡ (node_at c.args.t.now c.args.node).a = read_node_lem c.requires.known (λ n. n.a) c.child_a.ensures in
+    let first' = sequence_first t (goal.at.sequence-visit-first-requires t c).After-child_a in
     let h = c.requires in
-    (omega (arith, c.decreases, first_below h _ first), first_visitable h _ first)
+    (omega (arith, c.decreases, first_below h _ first'), first_visitable h _ first')
 
 pub sequence-shape_of-out-in_default : goal.sequence-shape_of-out-in_default
 sequence-shape_of-out-in_default t c = c.visit-first.auto.out
 
 pub sequence-returns-in_default : goal.sequence-returns-in_default
 sequence-returns-in_default t c =
-    let first : c.child_a.result ≡ (node_at c.args.t.now c.args.node).a = read_node_lem c.requires.known (λ n. n.a) c.child_a.ensures in
-    first_refused c.requires _ first c.visit-first.result _ _ c.visit-first.ensures c.in_default.is _
+    first_refused c.requires _ (sequence_first t (goal.at.sequence-returns-in_default t c).After-child_a) c.visit-first.result _ _ c.visit-first.ensures c.in_default.is _
 
 pub sequence-child_b-requires : goal.sequence-child_b-requires
 sequence-child_b-requires t c = node_bytes c.requires.known
 
 pub sequence-visit-requires : goal.sequence-visit-requires
 sequence-visit-requires t c =
-    let first : c.child_a.result ≡ (node_at c.args.t.now c.args.node).a = read_node_lem c.requires.known (λ n. n.a) c.child_a.ensures in
     let second = read_node_lem c.requires.known (λ n. n.b) c.child_b.ensures in
-    (omega (arith, c.decreases, second_below c.requires _ second), second_visitable c.requires _ first c.visit-first.result _ _ c.visit-first.ensures c.in-Accepted.is _ second)
+    (omega (arith, c.decreases, second_below c.requires _ second), second_visitable c.requires _ (sequence_first t (goal.at.sequence-visit-requires t c).After-child_a) c.visit-first.result _ _ c.visit-first.ensures c.in-Accepted.is _ second)
 
 pub sequence-shape_of-out : goal.sequence-shape_of-out
 sequence-shape_of-out t c = c.visit.auto.out ∙ c.visit-first.auto.out
 
 pub sequence-returns : goal.sequence-returns
 sequence-returns t c =
-    let first : c.child_a.result ≡ (node_at c.args.t.now c.args.node).a = read_node_lem c.requires.known (λ n. n.a) c.child_a.ensures in
-    sequence_answer c.requires _ first c.visit-first.result _ _ c.visit-first.ensures c.in-Accepted.is _
+    sequence_answer c.requires _ (sequence_first t (goal.at.sequence-returns t c).After-child_a) c.visit-first.result _ _ c.visit-first.ensures c.in-Accepted.is _
     (read_node_lem c.requires.known (λ n. n.b) c.child_b.ensures)
     c.visit.result _ c.visit.ensures
 
@@ -509,18 +512,15 @@ turns-loop-i-init t c = (omega arith, λ h. so_far_none h c.args.count c.args.ou
 
 pub turns-turn-so_far-requires : goal.turns-turn-so_far-requires
 turns-turn-so_far-requires t c =
-    let so_far : SoFar c.requires c.args.count c.args.out.now c.loop-i.i c.loop-i.so_far c.loop-i.out = c.loop-i.invariant.1 c.requires in
-    (omega (arith, c.decreases), again_turnable c.requires c.args.count _ c.loop-i.i c.loop-i.so_far c.loop-i.out so_far)
+    (omega (arith, c.decreases), again_turnable c.requires c.args.count _ c.loop-i.i c.loop-i.so_far c.loop-i.out (turns_so_far t (goal.at.turns-turn-so_far-requires t c).At-loop-i))
 
 pub turns-shape_of-out-in_default : goal.turns-shape_of-out-in_default
 turns-shape_of-out-in_default t c =
-    let so_far : SoFar c.requires c.args.count c.args.out.now c.loop-i.i c.loop-i.so_far c.loop-i.out = c.loop-i.invariant.1 c.requires in
-    c.turn-so_far.auto.out ∙ so_far.long
+    c.turn-so_far.auto.out ∙ (turns_so_far t (goal.at.turns-shape_of-out-in_default t c).At-loop-i).long
 
 pub turns-returns-in_default : goal.turns-returns-in_default
 turns-returns-in_default t c =
-    let so_far : SoFar c.requires c.args.count c.args.out.now c.loop-i.i c.loop-i.so_far c.loop-i.out = c.loop-i.invariant.1 c.requires in
-    again_refused c.requires c.args.count _ c.loop-i.i c.loop-i.so_far c.loop-i.out so_far c.loop-i-test.true
+    again_refused c.requires c.args.count _ c.loop-i.i c.loop-i.so_far c.loop-i.out (turns_so_far t (goal.at.turns-returns-in_default t c).At-loop-i) c.loop-i-test.true
     c.turn-so_far.result _ c.turn-so_far.ensures c.in_default.is _
 
 pub turns-loop-i-preserved : goal.turns-loop-i-preserved
@@ -529,13 +529,11 @@ turns-loop-i-preserved t c =
 
 pub turns-shape_of-out : goal.turns-shape_of-out
 turns-shape_of-out t c =
-    let so_far : SoFar c.requires c.args.count c.args.out.now c.loop-i.i c.loop-i.so_far c.loop-i.out = c.loop-i.invariant.1 c.requires in
-    so_far.long
+    (turns_so_far t (goal.at.turns-shape_of-out t c).At-loop-i).long
 
 pub turns-returns : goal.turns-returns
 turns-returns t c =
-    let so_far : SoFar c.requires c.args.count c.args.out.now c.loop-i.i c.loop-i.so_far c.loop-i.out = c.loop-i.invariant.1 c.requires in
-    turns_all c.requires c.args.count _ c.loop-i.i c.loop-i.so_far c.loop-i.out so_far c.loop-i-test.false c.loop-i.invariant.0
+    turns_all c.requires c.args.count _ c.loop-i.i c.loop-i.so_far c.loop-i.out (turns_so_far t (goal.at.turns-returns t c).At-loop-i) c.loop-i-test.false c.loop-i.invariant.0
 
 -- `visit` in the cycle: the entry is met, and then skipped, or paid for and walked.
 

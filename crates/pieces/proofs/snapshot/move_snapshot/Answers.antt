@@ -10,73 +10,68 @@ use Rattle.pieces.proofs.Snapshots.{moves_all, moves_not}
 use Rattle.table.specs.Laws.Row.{row_long}
 use Rattle.pieces.proofs.Turns.{whole, news_long, Reading, reading, passed_near, moved_is, moved_outside}
 use Rattle.pieces.proofs.snapshot.move_snapshot.Goals as goal
+use Rattle.pieces.proofs.snapshot.move_snapshot.Goals.{After-wide-v}
+
+read : (c : After-wide-v) → let s = c.args in Reading s.t.now s.lists.now s.node s.old.now s.from c.loop-i.i c.wide-v.result
+read c = reading c.requires.0 (omega (arith, c.wide-count.ensures)) c.wide-v.ensures.0
 
 pub loop-i-init : goal.loop-i-init
 loop-i-init c = (omega arith, (below_none _, laid_none))
 
 pub overflow_add-v : goal.overflow_add-v
 overflow_add-v c =
-    let read : let s = c.args in Reading s.t.now s.lists.now s.node s.old.now s.from c.loop-i.i c.wide-v.result = reading c.requires.0 (omega (arith, c.wide-count.ensures)) c.wide-v.ensures.0 in
-    omega (arith, read.its)
+    omega (arith, (read (goal.at.overflow_add-v c).After-wide-v).its)
 
 pub bounds-t-v : goal.bounds-t-v
 bounds-t-v c =
-    let read : let s = c.args in Reading s.t.now s.lists.now s.node s.old.now s.from c.loop-i.i c.wide-v.result = reading c.requires.0 (omega (arith, c.wide-count.ensures)) c.wide-v.ensures.0 in
-    read.its.inside
+    (read (goal.at.bounds-t-v c).After-wide-v).its.inside
 
 pub overflow_add-from : goal.overflow_add-from
 overflow_add-from c =
-    let read : let s = c.args in Reading s.t.now s.lists.now s.node s.old.now s.from c.loop-i.i c.wide-v.result = reading c.requires.0 (omega (arith, c.wide-count.ensures)) c.wide-v.ensures.0 in
-    omega (arith, read.there)
+    omega (arith, (read (goal.at.overflow_add-from c).After-wide-v).there)
 
 pub offset_bounds-old-from : goal.offset_bounds-old-from
 offset_bounds-old-from c =
-    let read : let s = c.args in Reading s.t.now s.lists.now s.node s.old.now s.from c.loop-i.i c.wide-v.result = reading c.requires.0 (omega (arith, c.wide-count.ensures)) c.wide-v.ensures.0 in
-    omega (arith, read.there)
+    omega (arith, (read (goal.at.offset_bounds-old-from c).After-wide-v).there)
 
 pub bounds-old-from : goal.bounds-old-from
 bounds-old-from c =
-    let read : let s = c.args in Reading s.t.now s.lists.now s.node s.old.now s.from c.loop-i.i c.wide-v.result = reading c.requires.0 (omega (arith, c.wide-count.ensures)) c.wide-v.ensures.0 in
-    read.there
+    (read (goal.at.bounds-old-from c).After-wide-v).there
 
 pub offset_bounds-changes-v : goal.offset_bounds-changes-v
 offset_bounds-changes-v c =
-    let read : let s = c.args in Reading s.t.now s.lists.now s.node s.old.now s.from c.loop-i.i c.wide-v.result = reading c.requires.0 (omega (arith, c.wide-count.ensures)) c.wide-v.ensures.0 in
-    omega (arith, read.its)
+    omega (arith, (read (goal.at.offset_bounds-changes-v c).After-wide-v).its)
 
 pub bounds-changes-v : goal.bounds-changes-v
 bounds-changes-v c =
-    let read : let s = c.args in Reading s.t.now s.lists.now s.node s.old.now s.from c.loop-i.i c.wide-v.result = reading c.requires.0 (omega (arith, c.wide-count.ensures)) c.wide-v.ensures.0 in
-    read.its.known
+    (read (goal.at.bounds-changes-v c).After-wide-v).its.known
 
 pub moved-new-requires : goal.moved-new-requires
 moved-new-requires c =
-    let read : let s = c.args in Reading s.t.now s.lists.now s.node s.old.now s.from c.loop-i.i c.wide-v.result = reading c.requires.0 (omega (arith, c.wide-count.ensures)) c.wide-v.ensures.0 in
-    passed_near read c.args.changes.now c.requires.1.0
+    passed_near (read (goal.at.moved-new-requires c).After-wide-v) c.args.changes.now c.requires.1.0
 
 pub shape_of-out-in_default : goal.shape_of-out-in_default
 shape_of-out-in_default c = laid_long c.loop-i.invariant.1.1
 
 pub returns-in_default : goal.returns-in_default
 returns-in_default c =
-    let read : let s = c.args in Reading s.t.now s.lists.now s.node s.old.now s.from c.loop-i.i c.wide-v.result = reading c.requires.0 (omega (arith, c.wide-count.ensures)) c.wide-v.ensures.0 in
+    let read' = read (goal.at.returns-in_default c).After-wide-v in
     moves_not (types_of c.args.t.now) c.args.changes.now _ _ (whole c.requires.0) c.args.out.now c.args.at _ c.loop-i.i
-    read.its.below
-    (moved_outside read c.args.changes.now c.requires.1.0 c.moved-new.ensures c.in_default.is)
+    read'.its.below
+    (moved_outside read' c.args.changes.now c.requires.1.0 c.moved-new.ensures c.in_default.is)
 
 pub overflow_add-at : goal.overflow_add-at
 overflow_add-at c =
-    let read : let s = c.args in Reading s.t.now s.lists.now s.node s.old.now s.from c.loop-i.i c.wide-v.result = reading c.requires.0 (omega (arith, c.wide-count.ensures)) c.wide-v.ensures.0 in
-    omega (arith, read.its, c.requires.1.1)
+    omega (arith, (read (goal.at.overflow_add-at c).After-wide-v).its, c.requires.1.1)
 
 pub loop-i-preserved : goal.loop-i-preserved
 loop-i-preserved c =
-    let read : let s = c.args in Reading s.t.now s.lists.now s.node s.old.now s.from c.loop-i.i c.wide-v.result = reading c.requires.0 (omega (arith, c.wide-count.ensures)) c.wide-v.ensures.0 in
-    let told = moved_is read c.args.changes.now c.requires.1.0 c.moved-new.ensures c.in-Is.is in (
+    let read' = read (goal.at.loop-i-preserved c).After-wide-v in
+    let told = moved_is read' c.args.changes.now c.requires.1.0 c.moved-new.ensures c.in-Is.is in (
       omega arith,
       (
         below_more _ _ c.loop-i.invariant.1.0 told.0,
-        laid_by (pos 0) c.loop-i.invariant.1.1 (omega (arith, read.its, news_long c.requires.0 c.args.changes.now)) told.1
+        laid_by (pos 0) c.loop-i.invariant.1.1 (omega (arith, read'.its, news_long c.requires.0 c.args.changes.now)) told.1
             (word c.in-Is.z (omega arith)) c.put.ensures,
       ),
     )

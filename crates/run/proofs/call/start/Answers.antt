@@ -12,6 +12,11 @@ use Rattle.rules.specs.Table.{variables, nodes}
 use Rattle.rules.specs.Run.{most_steps}
 use Rattle.run.specs.Laws.Calls.{passed, count_is, some_node, inputs_long, few, header_inside, Begun, begins, root_runnable, root_refused, room_refused, root_completable, root_answer}
 use Rattle.run.proofs.call.start.Goals as goal
+use Rattle.run.proofs.call.start.Goals.{After-padded}
+
+begun : (c : After-padded) → Begun c.requires c.pair-v.result (c.pair-root.result - 1) c.limit_of-most.result c.padded.result.values c.mentions-listed.result.lists
+unfolding variables nodes
+begun c = begins c.requires c.ranges.limit c.pair-v.ensures.0 c.pair-root.ensures.0 c.limit_of-most.ensures c.padded.ensures c.mentions-listed.ensures
 
 pub pair-v-requires : goal.pair-v-requires
 pair-v-requires c = omega (arith, header_inside c.requires)
@@ -38,33 +43,28 @@ padded-requires c =
 pub statement-ran-requires : goal.statement-ran-requires
 unfolding variables nodes
 statement-ran-requires c =
-    let begun : Begun c.requires c.pair-v.result (c.pair-root.result - 1) c.limit_of-most.result c.padded.result.values c.mentions-listed.result.lists = begins c.requires c.ranges.limit c.pair-v.ensures.0 c.pair-root.ensures.0 c.limit_of-most.ensures c.padded.ensures c.mentions-listed.ensures in
-    root_runnable c.requires begun
+    root_runnable c.requires (begun (goal.at.statement-ran-requires c).After-padded)
 
 pub returns-then-out-ran : goal.returns-then-out-ran
 unfolding variables nodes
 returns-then-out-ran c =
-    let begun : Begun c.requires c.pair-v.result (c.pair-root.result - 1) c.limit_of-most.result c.padded.result.values c.mentions-listed.result.lists = begins c.requires c.ranges.limit c.pair-v.ensures.0 c.pair-root.ensures.0 c.limit_of-most.ensures c.padded.ensures c.mentions-listed.ensures in
-    room_refused c.requires begun _ _ _ c.statement-ran.ensures c.statement-ran.auto.out c.in-Accepted.is
+    room_refused c.requires (begun (goal.at.returns-then-out-ran c).After-padded) _ _ _ c.statement-ran.ensures c.statement-ran.auto.out c.in-Accepted.is
     c.if-out-ran.true c.refuse-then-out-ran.result _ c.refuse-then-out-ran.ensures
 
 pub complete-requires : goal.complete-requires
 unfolding variables nodes
 complete-requires c =
-    let begun : Begun c.requires c.pair-v.result (c.pair-root.result - 1) c.limit_of-most.result c.padded.result.values c.mentions-listed.result.lists = begins c.requires c.ranges.limit c.pair-v.ensures.0 c.pair-root.ensures.0 c.limit_of-most.ensures c.padded.ensures c.mentions-listed.ensures in
-    root_completable c.requires begun _ _ _ c.statement-ran.ensures c.statement-ran.auto.out c.in-Accepted.is
+    root_completable c.requires (begun (goal.at.complete-requires c).After-padded) _ _ _ c.statement-ran.ensures c.statement-ran.auto.out c.in-Accepted.is
     c.if-out-ran.false
 
 pub returns-in-Refused : goal.returns-in-Refused
 unfolding variables nodes
 returns-in-Refused c =
-    let begun : Begun c.requires c.pair-v.result (c.pair-root.result - 1) c.limit_of-most.result c.padded.result.values c.mentions-listed.result.lists = begins c.requires c.ranges.limit c.pair-v.ensures.0 c.pair-root.ensures.0 c.limit_of-most.ensures c.padded.ensures c.mentions-listed.ensures in
-    root_refused c.requires begun _ _ _ c.statement-ran.ensures c.statement-ran.auto.out c.in-Refused.is
+    root_refused c.requires (begun (goal.at.returns-in-Refused c).After-padded) _ _ _ c.statement-ran.ensures c.statement-ran.auto.out c.in-Refused.is
     c.refuse.result _ c.refuse.ensures
 
 pub returns-else-out-ran : goal.returns-else-out-ran
 unfolding variables nodes
 returns-else-out-ran c =
-    let begun : Begun c.requires c.pair-v.result (c.pair-root.result - 1) c.limit_of-most.result c.padded.result.values c.mentions-listed.result.lists = begins c.requires c.ranges.limit c.pair-v.ensures.0 c.pair-root.ensures.0 c.limit_of-most.ensures c.padded.ensures c.mentions-listed.ensures in
-    root_answer c.requires begun _ _ _ c.statement-ran.ensures c.statement-ran.auto.out c.in-Accepted.is
+    root_answer c.requires (begun (goal.at.returns-else-out-ran c).After-padded) _ _ _ c.statement-ran.ensures c.statement-ran.auto.out c.in-Accepted.is
     c.if-out-ran.false c.complete.result _ c.complete.ensures

@@ -1,6 +1,7 @@
 -- The proof of the cycle of calls round `statement`: each answer is a law of `Compound`, `Sequences`, `Branches`, `Iterations` or
 -- `Loops`, at what the calls before it gave.
 -- Assumes nothing.
+use Prim.Native.Nat.{ℕ}
 use mathlib.Core.Path.{refl, ◌∙◌, ◌≡◌}
 use native.Mathlib.Omega.{arith}
 use Rattle.run.specs.Laws.Statements.{node_bytes, kind_read}
@@ -11,6 +12,22 @@ use Rattle.run.specs.Laws.Iterations.{Iterated, iterated_none, iterated_long, it
 use Rattle.run.specs.Laws.Sequences.{first_below, first_runnable, first_refused, GotFirst, got_first, second_below, second_runnable, sequence_answer}
 use Rattle.run.specs.Laws.Taken.{take_below, take_runnable, take_listed, take_refused, take_answer}
 use Rattle.run.proofs.statement.+branch_looped_parts_repeat_sequence_statement_take.Goals as goal
+use Rattle.run.proofs.statement.+branch_looped_parts_repeat_sequence_statement_take.Goals.{branch-In-Is, repeat-At-loop-i, sequence-In-Accepted, statement-Else-left-eq0, statement-In-Accepted}
+
+branch_test_value : (t : ℕ) (c : branch-In-Is t) → GotTest c.requires c.snapshot-after.ensures.behind c.in-Is.z c.in-Is.behind c.snapshot-after.new.out c.evaluate-test.new.out
+branch_test_value t c = got_test c.requires c.snapshot-after.ensures.behind c.child_a.ensures _ _ _ c.evaluate-test.ensures c.in-Is.is
+
+repeat_so_far : (t : ℕ) (c : repeat-At-loop-i t) → Iterated c.requires c.args.count c.args.out.now c.loop-i.i c.loop-i.so_far c.loop-i.out
+repeat_so_far t c = c.loop-i.invariant.1 c.requires
+
+sequence_first_end : (t : ℕ) (c : sequence-In-Accepted t) → GotFirst c.requires c.statement-first.result c.args.out.now c.statement-first.new.out
+sequence_first_end t c = got_first c.requires c.child_a.ensures _ _ _ c.statement-first.ensures c.in-Accepted.is
+
+statement_has_step : (t : ℕ) (c : statement-Else-left-eq0 t) → c.args.left ≡ 0 → ⊥
+statement_has_step t c = c.if-left-eq0.false
+
+statement_parts_end : (t : ℕ) (c : statement-In-Accepted t) → GotParts c.requires c.parts-inner.result c.args.out.now c.parts-inner.new.out
+statement_parts_end t c = got_parts c.requires _ _ _ c.parts-inner.ensures c.in-Accepted.is
 
 -- `branch` in the cycle: the snapshot before, the condition behind the room for the snapshot after, and then the branch taken.
 
@@ -43,8 +60,7 @@ branch-evaluate-test-requires t c = test_evaluable c.requires c.snapshot-after.e
 
 pub branch-take-requires : goal.branch-take-requires
 branch-take-requires t c =
-    let test_value : GotTest c.requires c.snapshot-after.ensures.behind c.in-Is.z c.in-Is.behind c.snapshot-after.new.out c.evaluate-test.new.out = got_test c.requires c.snapshot-after.ensures.behind c.child_a.ensures _ _ _ c.evaluate-test.ensures c.in-Is.is in
-    (omega (arith, c.decreases), branch_takeable c.requires c.snapshot-after.ensures.behind test_value)
+    (omega (arith, c.decreases), branch_takeable c.requires c.snapshot-after.ensures.behind (branch_test_value t (goal.at.branch-take-requires t c).In-Is))
 
 pub branch-shape_of-out-in-Refused : goal.branch-shape_of-out-in-Refused
 branch-shape_of-out-in-Refused t c = c.evaluate-test.auto.out ∙ c.snapshot-after.auto.out
@@ -58,8 +74,7 @@ branch-shape_of-out-in-Is t c = c.take.auto.out ∙ c.put.auto.out ∙ c.evaluat
 
 pub branch-returns-in-Is : goal.branch-returns-in-Is
 branch-returns-in-Is t c =
-    let test_value : GotTest c.requires c.snapshot-after.ensures.behind c.in-Is.z c.in-Is.behind c.snapshot-after.new.out c.evaluate-test.new.out = got_test c.requires c.snapshot-after.ensures.behind c.child_a.ensures _ _ _ c.evaluate-test.ensures c.in-Is.is in
-    branch_answer c.requires c.snapshot-after.ensures.behind test_value (omega arith) _ _ c.snapshot-after.ensures.laid c.put.ensures _ _
+    branch_answer c.requires c.snapshot-after.ensures.behind (branch_test_value t (goal.at.branch-returns-in-Is t c).In-Is) (omega arith) _ _ c.snapshot-after.ensures.laid c.put.ensures _ _
     c.take.ensures
 
 -- `looped` in the cycle: the snapshot before, the count behind it, and then the iterations.
@@ -172,23 +187,19 @@ repeat-loop-i-init t c = (omega arith, λ h. iterated_none h _ _ _ refl refl ref
 
 pub repeat-statement-so_far-requires : goal.repeat-statement-so_far-requires
 repeat-statement-so_far-requires t c =
-    let so_far : Iterated c.requires c.args.count c.args.out.now c.loop-i.i c.loop-i.so_far c.loop-i.out = c.loop-i.invariant.1 c.requires in
-    (omega (arith, c.decreases), again_runnable _ so_far)
+    (omega (arith, c.decreases), again_runnable _ (repeat_so_far t (goal.at.repeat-statement-so_far-requires t c).At-loop-i))
 
 pub repeat-shape_of-out-in_default : goal.repeat-shape_of-out-in_default
 repeat-shape_of-out-in_default t c =
-    let so_far : Iterated c.requires c.args.count c.args.out.now c.loop-i.i c.loop-i.so_far c.loop-i.out = c.loop-i.invariant.1 c.requires in
-    c.statement-so_far.auto.out ∙ iterated_long _ so_far
+    c.statement-so_far.auto.out ∙ iterated_long _ (repeat_so_far t (goal.at.repeat-shape_of-out-in_default t c).At-loop-i)
 
 pub repeat-returns-in_default : goal.repeat-returns-in_default
 repeat-returns-in_default t c =
-    let so_far : Iterated c.requires c.args.count c.args.out.now c.loop-i.i c.loop-i.so_far c.loop-i.out = c.loop-i.invariant.1 c.requires in
-    again_refused _ so_far c.loop-i-test.true _ _ c.statement-so_far.ensures c.in_default.is _
+    again_refused _ (repeat_so_far t (goal.at.repeat-returns-in_default t c).At-loop-i) c.loop-i-test.true _ _ c.statement-so_far.ensures c.in_default.is _
 
 pub repeat-snapshot-requires : goal.repeat-snapshot-requires
 repeat-snapshot-requires t c =
-    let so_far : Iterated c.requires c.args.count c.args.out.now c.loop-i.i c.loop-i.so_far c.loop-i.out = c.loop-i.invariant.1 c.requires in
-    again_listed _ so_far c.loop-i-test.true _ _ c.statement-so_far.ensures c.in-Accepted.is
+    again_listed _ (repeat_so_far t (goal.at.repeat-snapshot-requires t c).At-loop-i) c.loop-i-test.true _ _ c.statement-so_far.ensures c.in-Accepted.is
 
 pub repeat-loop-i-preserved : goal.repeat-loop-i-preserved
 repeat-loop-i-preserved t c = (
@@ -200,13 +211,11 @@ repeat-loop-i-preserved t c = (
 
 pub repeat-shape_of-out : goal.repeat-shape_of-out
 repeat-shape_of-out t c =
-    let so_far : Iterated c.requires c.args.count c.args.out.now c.loop-i.i c.loop-i.so_far c.loop-i.out = c.loop-i.invariant.1 c.requires in
-    iterated_long _ so_far
+    iterated_long _ (repeat_so_far t (goal.at.repeat-shape_of-out t c).At-loop-i)
 
 pub repeat-returns : goal.repeat-returns
 repeat-returns t c =
-    let so_far : Iterated c.requires c.args.count c.args.out.now c.loop-i.i c.loop-i.so_far c.loop-i.out = c.loop-i.invariant.1 c.requires in
-    iterated_all _ so_far (omega arith) c.loop-i.invariant.0
+    iterated_all _ (repeat_so_far t (goal.at.repeat-returns t c).At-loop-i) (omega arith) c.loop-i.invariant.0
 
 -- `sequence` in the cycle: the first statement, and the second from where the first ended.
 
@@ -234,16 +243,15 @@ sequence-child_b-requires t c = node_bytes c.requires.inner.known
 
 pub sequence-statement-requires : goal.sequence-statement-requires
 sequence-statement-requires t c =
-    let first_end : GotFirst c.requires c.statement-first.result c.args.out.now c.statement-first.new.out = got_first c.requires c.child_a.ensures _ _ _ c.statement-first.ensures c.in-Accepted.is in
-    (omega (arith, c.decreases, second_below c.requires first_end c.child_b.ensures), second_runnable c.requires first_end c.child_b.ensures)
+    let first_end' = sequence_first_end t (goal.at.sequence-statement-requires t c).In-Accepted in
+    (omega (arith, c.decreases, second_below c.requires first_end' c.child_b.ensures), second_runnable c.requires first_end' c.child_b.ensures)
 
 pub sequence-shape_of-out : goal.sequence-shape_of-out
 sequence-shape_of-out t c = c.statement.auto.out ∙ c.statement-first.auto.out
 
 pub sequence-returns : goal.sequence-returns
 sequence-returns t c =
-    let first_end : GotFirst c.requires c.statement-first.result c.args.out.now c.statement-first.new.out = got_first c.requires c.child_a.ensures _ _ _ c.statement-first.ensures c.in-Accepted.is in
-    sequence_answer c.requires first_end c.child_b.ensures _ _ c.statement.ensures
+    sequence_answer c.requires (sequence_first_end t (goal.at.sequence-returns t c).In-Accepted) c.child_b.ensures _ _ c.statement.ensures
 
 -- `statement` in the cycle: a step, the parts, and then the opening words round what the parts laid down.
 
@@ -264,35 +272,26 @@ statement-shape_of-out-in_default t c = c.parts-inner.auto.out
 
 pub statement-returns-in_default : goal.statement-returns-in_default
 statement-returns-in_default t c =
-    let has_step : c.args.left ≡ 0 → ⊥ = c.if-left-eq0.false in
-    entry_refused c.requires has_step _ _ _ c.parts-inner.ensures c.in_default.is _
+    entry_refused c.requires (statement_has_step t (goal.at.statement-returns-in_default t c).Else-left-eq0) _ _ _ c.parts-inner.ensures c.in_default.is _
 
 pub statement-overflow_sub-end : goal.statement-overflow_sub-end
 statement-overflow_sub-end t c =
-    let has_step : c.args.left ≡ 0 → ⊥ = c.if-left-eq0.false in
-    let parts_end : GotParts c.requires c.parts-inner.result c.args.out.now c.parts-inner.new.out = got_parts c.requires _ _ _ c.parts-inner.ensures c.in-Accepted.is in
-    omega (arith, parts_place c.requires has_step parts_end)
+    omega (arith, parts_place c.requires (statement_has_step t (goal.at.statement-overflow_sub-end t c).Else-left-eq0) (statement_parts_end t (goal.at.statement-overflow_sub-end t c).In-Accepted))
 
 pub statement-overflow_sub-left-2 : goal.statement-overflow_sub-left-2
 statement-overflow_sub-left-2 t c =
-    let has_step : c.args.left ≡ 0 → ⊥ = c.if-left-eq0.false in
-    let parts_end : GotParts c.requires c.parts-inner.result c.args.out.now c.parts-inner.new.out = got_parts c.requires _ _ _ c.parts-inner.ensures c.in-Accepted.is in
-    omega (arith, parts_left c.requires has_step parts_end)
+    omega (arith, parts_left c.requires (statement_has_step t (goal.at.statement-overflow_sub-left-2 t c).Else-left-eq0) (statement_parts_end t (goal.at.statement-overflow_sub-left-2 t c).In-Accepted))
 
 pub statement-open-requires : goal.statement-open-requires
 statement-open-requires t c =
-    let has_step : c.args.left ≡ 0 → ⊥ = c.if-left-eq0.false in
-    let parts_end : GotParts c.requires c.parts-inner.result c.args.out.now c.parts-inner.new.out = got_parts c.requires _ _ _ c.parts-inner.ensures c.in-Accepted.is in
-    entry_openable c.requires has_step parts_end
+    entry_openable c.requires (statement_has_step t (goal.at.statement-open-requires t c).Else-left-eq0) (statement_parts_end t (goal.at.statement-open-requires t c).In-Accepted)
 
 pub statement-shape_of-out : goal.statement-shape_of-out
 statement-shape_of-out t c = c.«open».auto.out ∙ c.parts-inner.auto.out
 
 pub statement-returns : goal.statement-returns
 statement-returns t c =
-    let has_step : c.args.left ≡ 0 → ⊥ = c.if-left-eq0.false in
-    let parts_end : GotParts c.requires c.parts-inner.result c.args.out.now c.parts-inner.new.out = got_parts c.requires _ _ _ c.parts-inner.ensures c.in-Accepted.is in
-    entry_answer c.requires has_step parts_end _ c.«open».ensures
+    entry_answer c.requires (statement_has_step t (goal.at.statement-returns t c).Else-left-eq0) (statement_parts_end t (goal.at.statement-returns t c).In-Accepted) _ c.«open».ensures
 
 -- `take` in the cycle: the branch that the condition takes, and the snapshot after it.
 

@@ -11,6 +11,12 @@ use Rattle.rules.proofs.Laws.Rising.{rising}
 use Rattle.table.specs.Rows.{laid}
 use Rattle.table.specs.Listing.{Made, made_next, lists_all}
 use Rattle.table.proofs.mentioned.mentions.Goals as goal
+use Rattle.table.proofs.mentioned.mentions.Goals.{After-flags_of-flags}
+
+-- a node of the loop is one of 512
+inside : (c : After-flags_of-flags) → c.loop-n.n < 512
+unfolding variables nodes
+inside c = omega (arith, c.pair-count.ensures.0, (sized c.args.t.now c.requires.0 c.requires.1).small, c.loop-n-test.true)
 
 pub pair-variables-requires : goal.pair-variables-requires
 pair-variables-requires c = omega (arith, (sized c.args.t.now c.requires.0 c.requires.1).whole)
@@ -29,14 +35,12 @@ flags_of-flags-requires c =
 pub write_list-requires : goal.write_list-requires
 unfolding variables nodes
 write_list-requires c =
-    let inside : c.loop-n.n < 512 = omega (arith, c.pair-count.ensures.0, (sized c.args.t.now c.requires.0 c.requires.1).small, c.loop-n-test.true) in
-    (c.loop-n.invariant.1.long, inside, omega (arith, c.pair-variables.ensures.0, (sized c.args.t.now c.requires.0 c.requires.1).few))
+    (c.loop-n.invariant.1.long, (inside (goal.at.write_list-requires c).After-flags_of-flags), omega (arith, c.pair-variables.ensures.0, (sized c.args.t.now c.requires.0 c.requires.1).few))
 
 pub overflow_add-n : goal.overflow_add-n
 unfolding variables nodes
 overflow_add-n c =
-    let inside : c.loop-n.n < 512 = omega (arith, c.pair-count.ensures.0, (sized c.args.t.now c.requires.0 c.requires.1).small, c.loop-n-test.true) in
-    omega (arith, inside)
+    omega (arith, (inside (goal.at.overflow_add-n c).After-flags_of-flags))
 
 pub loop-n-smaller : goal.loop-n-smaller
 loop-n-smaller c =
@@ -46,13 +50,12 @@ loop-n-smaller c =
 pub loop-n-preserved : goal.loop-n-preserved
 unfolding variables nodes
 loop-n-preserved c =
-    let inside : c.loop-n.n < 512 = omega (arith, c.pair-count.ensures.0, (sized c.args.t.now c.requires.0 c.requires.1).small, c.loop-n-test.true) in
     let all : length c.flags_of-flags.result ≡ 32 = search rules in
     let written : c.write_list.new.lists
     ≡ laid c.loop-n.lists c.loop-n.n (rising 0 (take (variables c.args.t.now) c.flags_of-flags.result)) =
     c.write_list.ensures ∙ ap (λ (k : ℕ). laid c.loop-n.lists c.loop-n.n (rising 0 (take k c.flags_of-flags.result))) c.pair-variables.ensures.0 in (
       omega (arith, c.loop-n-test.true),
-      rw written (made_next c.args.t.now c.requires c.loop-n.lists c.loop-n.n c.flags_of-flags.result inside c.loop-n.invariant.1 all c.flags_of-flags.ensures),
+      rw written (made_next c.args.t.now c.requires c.loop-n.lists c.loop-n.n c.flags_of-flags.result (inside (goal.at.loop-n-preserved c).After-flags_of-flags) c.loop-n.invariant.1 all c.flags_of-flags.ensures),
     )
 
 pub returns : goal.returns
