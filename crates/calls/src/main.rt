@@ -16,46 +16,42 @@
 // the whole buffer. Where the input ends inside a call, or a call is of no kind, a run without a limit, or too large, the last
 // line says so, and nothing behind it is executed.
 //
-// A call's arrays stand on the stack: 8,192 bytes for the table, 32,768 for the words, as many for their bytes while they are
-// read, as many for the buffer, and 4,096 for the text of its line.
+// A call's table, words and buffer stand on the heap. Where reading, writing or memory fails, the program ends early, with the error
+// and the status 1.
 #![tactic(auto)]
 
 mod execute;
 mod stream;
 
 use crate::execute::execute;
-use crate::stream::{Asked, next_call};
-use text::line::say;
+use crate::stream::{CallError, next_call};
+use std::alloc::Global;
+use std::io;
+use std::io::{BufRead, BufReader, BufWriter, Write};
 
-// Says that the input ends inside a call; returns false, that nothing follows.
-fn ends_inside() -> bool {
-    say(b"calls: the input ends inside a call\n");
-    false
+// Executes calls until the input ends; a proved loop has to end, so the turns are counted, to a number that no run uses up.
+fn execute_all<R: BufRead, W: Write>(
+    alloc: Global,
+    input: &mut R,
+    out: &mut W,
+) -> Result<(), CallError> {
+    for _ in 0..u64::MAX {
+        let Some(call) = next_call(input)? else {
+            break;
+        };
+        execute(alloc, call, input, out)?;
+    }
+    Ok(())
 }
 
-// Executes the next call; returns whether there was one, and all of it.
-fn answer_next() -> bool {
-    let asked = next_call();
-    match asked {
-        Asked::End => false,
-        Asked::Cut => ends_inside(),
-        Asked::Unknown => {
-            say(b"calls: no such call, or one too large\n");
-            false
-        }
-        Asked::Call(call) => {
-            if execute(call) {
-                return true;
-            }
-            ends_inside()
-        }
+fn main(rt: HostRuntime) -> io::Result<()> {
+    let alloc = rt.alloc();
+    let mut input = BufReader::new(alloc, rt.reader())?;
+    let mut out = BufWriter::new(alloc, io::writer(&rt))?;
+    match execute_all(alloc, &mut input, &mut out) {
+        Ok(()) => (),
+        Err(CallError::Failed(error)) => return Err(error),
+        Err(error) => writeln!(out, "calls: {error}")?,
     }
-}
-
-// Executes calls until the input ends; a proved loop has to end, so the turns are counted, from a number that no run uses up.
-fn main() {
-    let mut turns = u64::MAX;
-    while 0 < turns && answer_next() {
-        turns -= 1;
-    }
+    out.flush()
 }

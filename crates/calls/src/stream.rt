@@ -1,117 +1,147 @@
-// Reading calls from standard input.
-ghost use Rattle.std.specs.Prelude.{◌≡◌, ◌≤◌, length};
-ghost use Rattle.calls.specs.Stream.{Within, Opens, Fitting};
+// Reading calls from a stream of bytes.
+ghost use Rattle.std.specs.Prelude.{◌≡◌, ◌*◌, ◌≤◌, IfOk, vec_len};
+ghost use Rattle.calls.specs.Stream.{Decodes, Within, Opened, Fitting};
 
-use text::word::{decode, half};
+use std::alloc::{AllocError, Global};
+use std::io::{BufRead, ErrorKind, Read};
+use std::{fmt, io};
+use text::word::{decode, number_at};
 
-pub const MOST_BYTES: usize = 8192;
+const MOST_BYTES: usize = 8192;
 
-pub const MOST_WORDS: usize = 4096;
+const MOST_WORDS: usize = 4096;
 
-pub const MOST_ROOM: usize = 4096;
-
-// The bytes of the most words.
-const WORD_BYTES: usize = 32768;
+const MOST_ROOM: usize = 4096;
 
 // The bytes of the five numbers.
 const HEAD_BYTES: usize = 20;
 
+// Why a call is not executed, nor anything behind it.
+#[derive(Clone, Copy, Debug, Drop)]
+pub enum CallError {
+    Cut,
+    Unknown,
+    Failed(io::Error),
+}
+
+impl fmt::Display for CallError {
+    fn fmt<W: fmt::Write>(&self, f: &mut fmt::Formatter<W>) -> fmt::Result {
+        match self {
+            CallError::Cut => write!(f, "the input ends inside a call"),
+            CallError::Unknown => write!(f, "no such call, or one too large"),
+            CallError::Failed(error) => write!(f, "{error}"),
+        }
+    }
+}
+
+// Bytes are read only inside a call, so an end of the input is one inside a call.
+impl From<io::Error> for CallError {
+    fn from(error: io::Error) -> CallError {
+        match error.kind() {
+            ErrorKind::UnexpectedEof => CallError::Cut,
+            _ => CallError::Failed(error),
+        }
+    }
+}
+
+impl From<AllocError> for CallError {
+    fn from(error: AllocError) -> CallError {
+        CallError::Failed(io::Error::from(error))
+    }
+}
+
+// What a call asks for.
+#[derive(Clone, Copy, Debug, PartialEq, Eq)]
+pub enum Kind {
+    Check,
+    Run,
+    Patch,
+}
+
+impl TryFrom<u32> for Kind {
+    type Error = CallError;
+
+    ghost try_from_gives = { Decodes };
+
+    fn try_from(code: u32) -> Result<Self, CallError> {
+        match code {
+            0 => Ok(Kind::Check),
+            1 => Ok(Kind::Run),
+            2 => Ok(Kind::Patch),
+            _ => Err(CallError::Unknown),
+        }
+    }
+}
+
 // The five numbers that open a call.
-#[derive(Clone, Copy, Drop)]
+#[derive(Clone, Copy, Debug)]
 pub struct Call {
-    pub kind: usize,
+    pub kind: Kind,
     pub bytes: usize,
     pub words: usize,
     pub old: usize,
     pub room: usize,
 }
 
-// What stands next in the input.
-#[derive(Clone, Copy, Drop)]
-pub enum Asked {
-    Call(Call),
-    End,
-    Cut,
-    Unknown,
+impl Call {
+    // The call that these bytes open.
+    fn opening(head: &[u8; HEAD_BYTES]) -> Result<Self, CallError>
+        ensures { Opened head.now result }
+    {
+        Ok(Call {
+            kind: Kind::try_from(number_at(head, 0))?,
+            bytes: number_at(head, 4) as usize,
+            words: number_at(head, 8) as usize,
+            old: number_at(head, 12) as usize,
+            room: number_at(head, 16) as usize,
+        })
+    }
+
+    // The call, where its sizes are within their limits.
+    fn within(self) -> Result<Self, CallError>
+        ensures { IfOk result (λ call. (call ≡ self) × Within call) }
+    {
+        if MOST_BYTES < self.bytes
+            || MOST_WORDS < self.words
+            || self.words < self.old
+            || MOST_ROOM < self.room
+            || self.kind == Kind::Run && self.words == 0
+        {
+            return Err(CallError::Unknown);
+        }
+        Ok(self)
+    }
 }
 
-// The call that these numbers open, where its kind is known and its sizes are within their limits.
-fn known(call: Call) -> Asked
+// The call that stands next, where the input has not ended.
+pub fn next_call<R: BufRead>(input: &mut R) -> Result<Option<Call>, CallError>
     ensures { Fitting result }
 {
-    if MOST_BYTES < call.bytes {
-        return Asked::Unknown;
+    if input.fill_buf()?.is_empty() {
+        return Ok(None);
     }
-    if MOST_WORDS < call.words {
-        return Asked::Unknown;
-    }
-    if call.words < call.old {
-        return Asked::Unknown;
-    }
-    if MOST_ROOM < call.room {
-        return Asked::Unknown;
-    }
-    if call.kind == 0 {
-        return Asked::Call(call);
-    }
-    if call.kind == 2 {
-        return Asked::Call(call);
-    }
-    if call.kind != 1 {
-        return Asked::Unknown;
-    }
-    if call.words < 1 {
-        return Asked::Unknown;
-    }
-    Asked::Call(call)
-}
-
-// The five numbers of these bytes.
-fn opening(head: &[u8; HEAD_BYTES]) -> Call
-    requires { length head.now ≡ 20 }
-    ensures { Opens head.now result }
-{
-    Call {
-        kind: half(head, 0),
-        bytes: half(head, 4),
-        words: half(head, 8),
-        old: half(head, 12),
-        room: half(head, 16),
-    }
-}
-
-// What stands next: the numbers of a call, or why there is none.
-pub fn next_call() -> Asked
-    ensures { Fitting result }
-{
     let mut head = [0u8; HEAD_BYTES];
-    let got = io::read_full(0, &mut head);
-    if got == 0 {
-        return Asked::End;
-    }
-    if got < HEAD_BYTES {
-        return Asked::Cut;
-    }
-    known(opening(&head))
+    input.read_exact(&mut head)?;
+    let call = Call::opening(&head)?.within()?;
+    Ok(Some(call))
 }
 
-// Fills the first n bytes from the input; returns whether it had as many.
-pub fn fill_bytes(bytes: &mut [u8], n: usize) -> bool
-    requires { n ≤ length bytes.old }
+// The next n bytes.
+pub fn read_bytes<R: Read>(alloc: Global, input: &mut R, n: usize) -> Result<Vec<u8>, CallError>
+    ensures { IfOk result (λ bytes. vec_len bytes ≡ n) }
 {
-    io::read_full(0, &mut bytes[..n]) == n
+    let mut bytes = vec![in alloc; 0u8; n]?;
+    input.read_exact(&mut bytes)?;
+    Ok(bytes)
 }
 
-// Fills the first n words from the input; returns whether it had as many.
-pub fn fill_words(words: &mut [i64; MOST_WORDS], n: usize) -> bool
-    requires { (n ≤ 4096) × (length words.old ≡ 4096) }
-    ensures { length words.new ≡ 4096 }
+// The next n words.
+pub fn read_words<R: Read>(alloc: Global, input: &mut R, n: usize) -> Result<Vec<i64>, CallError>
+    requires { n ≤ 4096 }
+    ensures { IfOk result (λ words. vec_len words ≡ n) }
 {
-    let mut bytes = [0u8; WORD_BYTES];
-    let size = 8 * n;
-    if !fill_bytes(&mut bytes, size) {
-        return false;
-    }
-    decode(&bytes, words, n);
-    true
+    let bytes = read_bytes(alloc, input, 8 * n)?;
+    let mut words = vec![in alloc; 0i64; n]?;
+    decode(&bytes, &mut words);
+    Ok(words)
 }

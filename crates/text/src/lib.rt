@@ -1,6 +1,5 @@
-// What the programs share: words from bytes, lines of text, and the numbers of an answer in them.
+// What the programs share: numbers and words from their bytes, and the numbers of a line of text.
 #![tactic(auto)]
 
-pub mod answer;
 pub mod line;
 pub mod word;
