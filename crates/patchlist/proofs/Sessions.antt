@@ -3,15 +3,13 @@
 use mathlib.Core.Path.{◌≡◌, refl, sym, ap, ap₂, ◌∙◌}
 use mathlib.Core.Bool.{Bool, true, false, ◌&&◌, true≢false, false≢true}
 use mathlib.Core.List.{List, [], ◌∷◌, ◌++◌}
-use Prim.Native.Nat.{ℕ, zero, suc, ◌+◌, ◌-◌, ◌*◌, ◌≤◌, ◌<◌}
-use native.Mathlib.Nat.{mul-le-mul_right}
+use Prim.Native.Nat.{ℕ, zero, suc, ◌+◌, ◌-◌, ◌*◌, ◌≤◌}
 use native.Mathlib.Omega.{arith}
 use lib.ListN.{length, take, drop, length-drop}
 use lib.Dec.{leb, eqb}
 use lib.Seq.{take_all, take-suc}
 use lib.IntN.{ℤ, pos}
-use borrow.Author.Tests.{lt-leb, le-leb, ne_eqb, eq-eqb, leb-true}
-use Rattle.numbers.specs.Lay.{lay, lay_to_end}
+use borrow.Author.Tests.{ne_eqb, eq-eqb, leb-true}
 use Rattle.numbers.specs.Laws.{and_left, and_right}
 use Rattle.rules.specs.Table.{u16, check}
 use Rattle.rules.specs.Outcome.{choose}
@@ -19,7 +17,6 @@ use Rattle.rules.specs.Value.{at}
 use Rattle.rules.specs.Call.{Called, IsCheck, call_check, IsRun, call_run, IsPatch, call_patch}
 use Rattle.rules.proofs.Laws.Header.{Sized, sized}
 use Rattle.table.specs.Paper.{number_of, answer_of}
-use Rattle.table.specs.Laws.Tests.{here, later, keep}
 use Rattle.table.specs.declared.answer.Answer.{Answer}
 use Rattle.table.specs.declared.answer.Refusal.{Refusal}
 use Rattle.table.specs.declared.answer.Outcome.{Outcome}
@@ -28,33 +25,9 @@ use Rattle.text.specs.Words.{Decoded}
 use Rattle.run.specs.Laws.Tests.{accepted_of, refused_some}
 use Rattle.patchlist.specs.Session.{opens, kept, handed, handed_on, words_of, calls_end, words_end, table_end, session_end}
 
--- ---- the tests of the header in a row
+-- ---- the header
 
 module _ (s : List ℕ) where
-  pub short : length s < 8 → false ≡ opens s
-  unfolding opens
-  short h = here (leb 8 (length s)) _ (lt-leb 8 (length s) h)
-
-  pub table_off : (x : ℕ) → x ≡ u16 s 0 → (x ≡ 8 → ⊥) → false ≡ opens s
-  unfolding opens
-  table_off x r e = later (leb 8 (length s)) _ (here (eqb (u16 s 0) 8) _ (ne_eqb _ _ (λ q. e (r ∙ q))))
-
-  pub words_off : (x end : ℕ) → x ≡ u16 s 4 → end ≡ 8 + u16 s 2 → (x ≡ end → ⊥) → false ≡ opens s
-  unfolding opens
-  words_off x end r t e =
-      later (leb 8 (length s)) _ (later (eqb (u16 s 0) 8) _ (here (eqb (u16 s 4) (8 + u16 s 2)) _ (ne_eqb _ _ (λ q. e (r ∙ q ∙ sym t)))))
-
-  pub too_many : (x : ℕ) → x ≡ u16 s 6 → 64 < x → false ≡ opens s
-  unfolding opens
-  too_many x r h =
-      later (leb 8 (length s)) _ (later (eqb (u16 s 0) 8) _ (later (eqb (u16 s 4) (8 + u16 s 2)) _ (here (leb (u16 s 6) 64) _ (lt-leb (u16 s 6) 64 (omega (arith, r, h))))))
-
-  pub end_decides : (end : ℕ) → 8 ≤ length s → u16 s 0 ≡ 8 → u16 s 4 ≡ 8 + u16 s 2 → u16 s 6 ≤ 64 → end ≡ 8 + u16 s 2 → leb end (length s) ≡ opens s
-  unfolding opens
-  end_decides end l t w k e =
-      ap (λ (n : ℕ). leb n (length s)) e ∙ keep (leb (u16 s 6) 64) _ (le-leb _ _ k) ∙ keep (eqb (u16 s 4) (8 + u16 s 2)) _ (eq-eqb _ _ w)
-      ∙ keep (eqb (u16 s 0) 8) _ (eq-eqb _ _ t) ∙ keep (leb 8 (length s)) _ (le-leb _ _ l)
-
   -- what a session that opens has
   pub opened : opens s ≡ true → (8 ≤ length s) × (u16 s 6 ≤ 64) × (8 + u16 s 2 ≤ length s)
   unfolding opens
@@ -63,16 +36,6 @@ module _ (s : List ℕ) where
       = and_right (leb 8 (length s)) _ o in
       let last : (leb (u16 s 6) 64 && leb (8 + u16 s 2) (length s)) ≡ true = and_right (eqb (u16 s 4) (8 + u16 s 2)) _ (and_right (eqb (u16 s 0) 8) _ first) in
       (leb-true _ _ (and_left (leb 8 (length s)) _ o), leb-true _ _ (and_left (leb (u16 s 6) 64) _ last), leb-true _ _ (and_right (leb (u16 s 6) 64) _ last))
-
--- ---- how many words
-
--- the lists of an accepted count lie in 2,048 words
-pub lists_few : (v k : ℕ) → v ≤ 32 → k ≤ 64 → k * v ≤ 2048
-lists_few v k few h = let most : k * v ≤ 64 * v = mul-le-mul_right v h in omega (arith, most, few)
-
--- the list of each patch lies among the lists
-pub list_inside : (i k v : ℕ) → i < k → i * v + v ≤ k * v
-list_inside i k v h = let up : suc i * v ≤ k * v = mul-le-mul_right v (omega (arith, h)) in omega (arith, up)
 
 -- ---- an accepted table
 
@@ -97,10 +60,10 @@ module _ (t : List ℕ) (old changes : List ℤ) (a : Answer) (new : List ℤ) (
   new_is : new ≡ (call_patch t old changes 2048).buffer
   new_is = is.leaves ∙ ap (λ (n : ℕ). (call_patch t old changes n).buffer) long
 
-  -- an accepted patch hands on the new record, which takes the old one's place
-  pub handed_new : {after : List ℤ} → a.outcome ≡ Accepted → length old ≡ 2048 → after ≡ lay old 0 new → after ≡ handed t old changes
+  -- an accepted patch hands on the new record
+  pub handed_new : a.outcome ≡ Accepted → new ≡ handed t old changes
   unfolding handed
-  handed_new e same laid = laid ∙ lay_to_end old 0 new (omega (arith, long, same)) ∙ new_is ∙ kept_new _ old _ (sym number_is ∙ ap number_of e)
+  handed_new e = new_is ∙ kept_new _ old _ (sym number_is ∙ ap number_of e)
 
   -- a refused one keeps the old record
   pub handed_old : (q : Refusal) → a.outcome ≡ Refused q → old ≡ handed t old changes
@@ -135,14 +98,18 @@ passed_over false one other e = refl
 pub to_the_end : {A : Type 0} (xs : List A) (n : ℕ) → take (length xs - n) (drop n xs) ≡ drop n xs
 to_the_end xs n = take_all (length xs - n) (drop n xs) (omega (arith, length-drop n xs))
 
--- words that were decoded are those of the bytes
-pub words_are : (bytes : List ℕ) (words : List ℤ) (n : ℕ) → n ≤ length words → Decoded bytes n words → take n words ≡ words_of bytes n
+first_words : (bytes : List ℕ) (words : List ℤ) (n : ℕ) → n ≤ length words → Decoded bytes n words → take n words ≡ words_of bytes n
 unfolding words_of
-words_are bytes words zero h d = refl
-words_are bytes words (suc n) h d =
+first_words bytes words zero h d = refl
+first_words bytes words (suc n) h d =
     let before : Decoded bytes n words = λ k l. d k (omega (arith, l)) in
     take-suc words n (pos 0) (omega (arith, h))
-    ∙ ap₂ {C = List ℤ} (λ (xs : List ℤ) (w : ℤ). xs ++ (w ∷ [])) (words_are bytes words n (omega (arith, h)) before) (d n (omega arith))
+    ∙ ap₂ {C = List ℤ} (λ (xs : List ℤ) (w : ℤ). xs ++ (w ∷ [])) (first_words bytes words n (omega (arith, h)) before) (d n (omega arith))
+
+-- words that were decoded are those of the bytes
+pub words_are : (bytes : List ℕ) (words : List ℤ) (n : ℕ) → length words ≡ n → Decoded bytes (length words) words → words ≡ words_of bytes n
+words_are bytes words n long d =
+    sym (take_all (length words) words (omega arith)) ∙ first_words bytes words (length words) (omega arith) d ∙ ap (words_of bytes) long
 
 module _ (t : List ℕ) (v k : ℕ) (words : List ℤ) (n : ℕ) (limit : ℤ) (a : Answer) (first : List ℤ) (width : n ≡ v) (limit_is : limit ≡ at words 0)
     (is : IsRun t (take n (drop 1 words)) limit (answer_of a) first) (long : length first ≡ 2048) where

@@ -1,7 +1,7 @@
 -- What the contracts of `patchlist` cite: when a session's header is right, which record each patch starts from, and which is
 -- the last.
 -- Assumes nothing.
-use Rattle.std.specs.Prelude.{◌≡◌, Bool, ◌&&◌, List, [], ◌∷◌, ◌++◌, ℕ, zero, suc, ◌+◌, ◌*◌, length, take, drop, leb, eqb, ℤ}
+use Rattle.std.specs.Prelude.{Bool, ◌&&◌, List, [], ◌∷◌, ◌++◌, ℕ, zero, suc, ◌+◌, ◌*◌, length, take, drop, leb, eqb, ℤ}
 use Rattle.rules.specs.Table.{u16}
 use Rattle.rules.specs.Outcome.{choose}
 use Rattle.rules.specs.Value.{at}
@@ -16,9 +16,6 @@ opens s = leb 8 (length s) && (eqb (u16 s 0) 8 && (eqb (u16 s 4) (8 + u16 s 2) &
 -- "It has 2,048 words of room for each record"
 abbrev pub room : ℕ
 room = 2048
-
-abbrev pub Record : List ℤ → Type 0
-Record words = length words ≡ room
 
 -- by the outcome's number: the new record where it is accepted, and the old one where it is refused
 abbrev pub kept : ℕ → List ℤ → List ℤ → List ℤ

@@ -11,6 +11,8 @@
 //
 // A line is the call, 0, steps, walked, reused, fresh, the record's length and the V output values; or the call and the number of
 // its refusal. A session that is none, or whose count of words is wrong, is the line `session refused`.
+//
+// Where reading, writing or memory fails, the program ends with the error and the status 1.
 #![tactic(auto)]
 
 mod listing;
@@ -18,12 +20,18 @@ mod say;
 mod session;
 
 use crate::listing::{ROOM, list};
+use crate::say::Listing;
 use crate::session::MOST_INPUT;
+use std::io;
+use std::io::{BufWriter, Read};
 
 // Reads as much as decides what is listed, and lists it. The last record is what the contract of the listing speaks of.
-fn main() {
-    let mut input = [0u8; MOST_INPUT];
-    let got = io::read_full(0, &mut input);
+fn main(rt: HostRuntime) -> io::Result<()> {
+    let alloc = rt.alloc();
+    let mut input = Vec::new(alloc);
+    rt.reader().take(MOST_INPUT).read_to_end(&mut input)?;
+    let mut listing = Listing::new(BufWriter::new(alloc, io::writer(&rt))?);
     let mut last = [0i64; ROOM];
-    list(&input[..got], &mut last);
+    list(&mut listing, &input, &mut last);
+    listing.finish()
 }

@@ -1,55 +1,66 @@
 // The lines of the listing.
 ghost use Rattle.std.specs.Prelude.{◌≤◌};
-ghost use Rattle.text.specs.Lines.{Gathered};
 
+use std::fmt::Display;
+use std::io;
+use std::io::Write;
 use table::answer::{Answer, Outcome};
 use table::paper::number_of;
-use text::answer::add_counts;
-use text::line::{MOST_TEXT, add, add_bytes, add_next, add_words, flush, say};
+use text::line::{Counts, Words};
 
-// Writes the line of a session that is none.
-pub fn refuse_session() {
-    say(b"session refused\n");
+// A listing as it is written. The first failure to write is kept for the end: it ends the writing, and not the calls, so that the
+// last record does not hang on the output.
+#[derive(Drop)]
+pub struct Listing<W> {
+    out: W,
+    written: io::Result<()>,
 }
 
-// Begins a line: the call and the number of its outcome; returns the place behind them.
-fn begin(text: &mut [u8; MOST_TEXT], call: &[u8], outcome: Outcome) -> usize
-    requires { Gathered text.old 0 }
-    ensures { Gathered text.new result }
-{
-    let name = add_bytes(text, 0, call);
-    add_next(text, name, number_of(outcome) as u64)
-}
+impl<W: Write> Listing<W> {
+    pub fn new(out: W) -> Self {
+        Listing {
+            out,
+            written: Ok(()),
+        }
+    }
 
-// Writes the line of a refused call.
-pub fn say_refused(call: &[u8], outcome: Outcome) {
-    let mut text = [0u8; MOST_TEXT];
-    let number = begin(&mut text, call, outcome);
-    let end = add(&mut text, number, b'\n');
-    flush(&text, end);
-}
+    fn say(&mut self, line: impl Display + Drop) {
+        if self.written.is_ok() {
+            self.written = writeln!(self.out, "{line}");
+        }
+    }
 
-// Writes the line of an accepted call of a program of v variables.
-fn say_accepted(call: &[u8], answer: Answer, v: usize)
-    requires { v ≤ 32 }
-{
-    let mut text = [0u8; MOST_TEXT];
-    let outcome = answer.outcome;
-    let number = begin(&mut text, call, outcome);
-    let counts = add_counts(&mut text, number, answer);
-    let values = answer.values;
-    let outputs = add_words(&mut text, counts, &values[..v]);
-    let end = add(&mut text, outputs, b'\n');
-    flush(&text, end);
-}
+    // The line of a session that is none.
+    pub fn refuse_session(&mut self) {
+        self.say("session refused");
+    }
 
-// Writes the line of a call's answer.
-pub fn say_answer(call: &[u8], answer: Answer, v: usize)
-    requires { v ≤ 32 }
-{
-    let outcome = answer.outcome;
-    match outcome {
-        Outcome::Refused(_) => say_refused(call, outcome),
-        Outcome::Accepted => say_accepted(call, answer, v),
+    // The line of a refused call.
+    pub fn refuse(&mut self, call: &str, outcome: Outcome) {
+        self.say(format_args!("{call} {}", number_of(outcome)));
+    }
+
+    // The line of the answer to a call of a program of v variables.
+    pub fn answer(&mut self, call: &str, answer: &Answer, v: usize)
+        requires { v ≤ 32 }
+    {
+        let outcome = answer.outcome;
+        match outcome {
+            Outcome::Refused(_) => self.refuse(call, outcome),
+            Outcome::Accepted => {
+                let values = Words(&answer.values[..v]);
+                self.say(format_args!("{call} {}{}{values}", number_of(outcome), Counts(answer)));
+            }
+        }
+    }
+
+    // Writes out what is left; the error is the first one.
+    pub fn finish(self) -> io::Result<()>
+    where
+        W: Drop,
+    {
+        let Listing { mut out, written } = self;
+        written?;
+        out.flush()
     }
 }

@@ -1,11 +1,11 @@
 // The header of a session, and how many words it has.
-ghost use Rattle.std.specs.Prelude.{◌≡◌, ◌+◌, ◌*◌, ◌≤◌, length};
+ghost use Rattle.std.specs.Prelude.{◌≡◌, ◌+◌, ◌*◌, ◌≤◌};
 ghost use Rattle.patchlist.specs.Session.{opens as opens_by};
 
 use table::access::pair;
 
 // More than a header and the largest table that it can name: an input that is cut here is decided before its end.
-pub const MOST_INPUT: usize = 65536;
+pub const MOST_INPUT: u64 = 65536;
 
 // The offset of the table: the length of the header.
 pub const TABLE_AT: usize = 8;
@@ -16,29 +16,32 @@ const MOST_PATCHES: usize = 64;
 pub const MOST_WORDS: usize = 2081;
 
 // Whether the header is right, and the table is there whole.
+#[tactic(auto, unfolding(crate::specs::Session::opens))]
 pub fn opens(s: &[u8]) -> bool
     ensures { result ≡ opens_by s.now }
 {
-    if s.len() < TABLE_AT {
-        return false;
-    }
-    if pair(s, 0) != TABLE_AT {
-        return false;
-    }
-    let end = TABLE_AT + pair(s, 2);
-    if pair(s, 4) != end {
-        return false;
-    }
-    if MOST_PATCHES < pair(s, 6) {
-        return false;
-    }
-    end <= s.len()
+    TABLE_AT <= s.len()
+        && pair(s, 0) == TABLE_AT
+        && pair(s, 4) == TABLE_AT + pair(s, 2)
+        && pair(s, 6) <= MOST_PATCHES
+        && TABLE_AT + pair(s, 2) <= s.len()
 }
 
-// How many words a session of v variables and k patches has.
-pub fn word_count(v: usize, k: usize) -> usize
-    requires { (v ≤ 32) × (k ≤ 64) }
-    ensures { (result ≡ 1 + v + k * v) × (result ≤ 2081) }
-{
-    1 + v + k * v
+// The table of a session with a right header, how many variables its program has, and how many patches there are.
+#[derive(Clone, Copy, Drop)]
+pub struct Session<'a> {
+    pub table: &'a [u8],
+    pub variables: usize,
+    pub patches: usize,
+    ghost few_variables: { variables ≤ 32 },
+    ghost few_patches: { patches ≤ 64 },
+}
+
+impl Session<'_> {
+    // How many words it has: the limit, an input for each variable, and a list of changes for each patch.
+    pub fn word_count(&self) -> usize
+        ensures { (result ≡ 1 + self.now.variables + self.now.patches * self.now.variables) × (result ≤ 2081) }
+    {
+        1 + self.variables + self.patches * self.variables
+    }
 }

@@ -31,7 +31,7 @@ fn word_at(s: &[u8], at: usize) -> i64
 pub fn decode(bytes: &[u8], words: &mut [i64])
     requires { 8 * length words.old ≤ length bytes.now }
     ensures long { length words.new ≡ length words.old }
-    ensures decoded { Decoded bytes.now (length words.old) words.new }
+    ensures decoded { Decoded bytes.now (length words.new) words.new }
 {
     for (i, word) in words.iter_mut().enumerate() {
         *word = word_at(bytes, 8 * i);

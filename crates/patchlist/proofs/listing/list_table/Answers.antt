@@ -7,21 +7,21 @@ use Rattle.patchlist.proofs.Sessions.{table_sized, table_refused, table_accepted
 use Rattle.patchlist.proofs.listing.list_table.Goals as goal
 
 pub pair-requires : goal.pair-requires
-pair-requires c =
-    let size : Sized c.args.t.now = table_sized c.args.t.now c.check-checked.result c.in-Accepted.is c.check-checked.ensures in
+pair-requires g c =
+    let size : Sized c.args.table.now = table_sized c.args.table.now c.check-checked.result c.in-Accepted.is c.check-checked.ensures in
     omega (arith, size.whole)
 
-pub list_words-requires : goal.list_words-requires
-list_words-requires c =
-    let size : Sized c.args.t.now = table_sized c.args.t.now c.check-checked.result c.in-Accepted.is c.check-checked.ensures in
-    (omega (arith, size.few, count_is c.args.t.now c.pair.ensures.0), c.requires.0, c.requires.1)
+pub invariant_of-session-clause-few_variables : goal.invariant_of-session-clause-few_variables
+invariant_of-session-clause-few_variables g c =
+    let size : Sized c.args.table.now = table_sized c.args.table.now c.check-checked.result c.in-Accepted.is c.check-checked.ensures in
+    omega (arith, size.few, count_is c.args.table.now c.pair.ensures.0)
 
 pub returns-in-Refused : goal.returns-in-Refused
-returns-in-Refused c =
-    table_refused c.args.t.now c.args.k c.args.behind.now c.args.last.now c.check-checked.result c.check-checked.ensures
+returns-in-Refused g c =
+    table_refused c.args.table.now c.args.patches c.args.behind.now c.args.last.now c.check-checked.result c.check-checked.ensures
     c.in-Refused.field-0 c.in-Refused.is
 
 pub returns-in-Accepted : goal.returns-in-Accepted
-returns-in-Accepted c =
-    table_accepted c.args.t.now c.args.k c.args.behind.now c.args.last.now c.check-checked.result c.check-checked.ensures
+returns-in-Accepted g c =
+    table_accepted c.args.table.now c.args.patches c.args.behind.now c.args.last.now c.check-checked.result c.check-checked.ensures
     c.pair.result c.pair.ensures.0 c.in-Accepted.is c.list_words.ensures
