@@ -1,6 +1,6 @@
 -- What the contracts of `calls` cite: the numbers of a call, and their limits.
 -- Assumes nothing.
-use Rattle.std.specs.Prelude.{◌≡◌, List, ℕ, ◌<◌, ◌≤◌, Option, Some, None, Result, Ok, Err, MatchResult}
+use Rattle.std.specs.Prelude.{◌≡◌, List, ℕ, ◌<◌, ◌≤◌, Option, IfSome, Result, IfOk, MatchResult}
 use Rattle.text.specs.Words.{u32}
 use Rattle.calls.specs.declared.stream.Call.{Call}
 use Rattle.calls.specs.declared.stream.CallError.{CallError}
@@ -40,6 +40,4 @@ Opened head r = MatchResult r (Opens head) (λ e. (e ≡ Unknown) × (2 < u32 he
 
 -- where a call stands next, it is within its limits
 abbrev pub Fitting : Result (Option Call) CallError → Type 0
-Fitting (Ok (Some c)) = Within c
-Fitting (Ok None) = Unit
-Fitting (Err e) = Unit
+Fitting asked = IfOk asked (λ next. IfSome next Within)

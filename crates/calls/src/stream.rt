@@ -1,5 +1,5 @@
 // Reading calls from a stream of bytes.
-ghost use Rattle.std.specs.Prelude.{◌≡◌, ◌*◌, ◌≤◌, IfOk, vec_len};
+ghost use Rattle.std.specs.Prelude.{◌≡◌, ◌*◌, ◌≤◌, IfOk, IfErr, vec_len};
 ghost use Rattle.calls.specs.Stream.{Decodes, Within, Opened, Fitting};
 
 use std::alloc::{AllocError, Global};
@@ -99,7 +99,8 @@ impl Call {
 
     // The call, where its sizes are within their limits.
     fn within(self) -> Result<Self, CallError>
-        ensures { IfOk result (λ call. (call ≡ self) × Within call) }
+        ensures ok { IfOk result (λ call. (call ≡ self) × Within call) }
+        ensures err { IfErr result (λ e. (e ≡ CallError.Unknown) × ¬ (Within self)) }
     {
         if MOST_BYTES < self.bytes
             || MOST_WORDS < self.words
