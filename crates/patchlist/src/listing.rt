@@ -12,7 +12,7 @@ use table::answer::Outcome;
 use table::check::check;
 use text::word::decode;
 
-// The words of room for each record.
+// The words of room for each record. A record is an array of them, so that its type says how long it is.
 pub const ROOM: usize = 2048;
 
 // Patches the record by a list of changes and writes the line; the new record takes the old one's place where it is accepted.
@@ -44,6 +44,7 @@ fn list_patches<W: Write>(
     ensures { old.new ≡ handed_on session.now.table.now session.now.variables lists.now old.old session.now.patches }
 {
     let v = session.variables;
+    // A program may have no variables, and `chunks_exact` takes no size of 0.
     for i in 0..session.patches {
         let from = i * v;
         list_patch(listing, session, &lists[from..from + v], old);
@@ -82,6 +83,7 @@ fn list_words<W: Write>(
         listing.refuse_session();
         return;
     }
+    // An array, since an allocation may fail, and the contract knows no failure.
     let mut room = [0i64; MOST_WORDS];
     let words = &mut room[..count];
     decode(behind, words);
