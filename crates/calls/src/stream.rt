@@ -3,7 +3,7 @@ ghost use Rattle.std.specs.Prelude.{◌≡◌, ◌*◌, ◌≤◌, IfOk, IfErr, 
 ghost use Rattle.calls.specs.Stream.{Decodes, Within, Opened, Fitting};
 
 use std::alloc::{AllocError, Global};
-use std::io::{BufRead, ErrorKind, Read};
+use std::io::{BufRead, Read};
 use std::{fmt, io};
 use text::word::{decode, number_at};
 
@@ -17,11 +17,11 @@ const MOST_ROOM: usize = 4096;
 const HEAD_BYTES: usize = 20;
 
 // Why a call is not executed, nor anything behind it.
-#[derive(Clone, Copy, Debug, Drop)]
+#[derive(Clone, Copy, Debug, PartialEq, Eq, Drop)]
 pub enum CallError {
     Cut,
     Unknown,
-    Failed(io::Error),
+    OutOfMemory,
 }
 
 impl fmt::Display for CallError {
@@ -29,24 +29,21 @@ impl fmt::Display for CallError {
         match self {
             CallError::Cut => write!(f, "the input ends inside a call"),
             CallError::Unknown => write!(f, "no such call, or one too large"),
-            CallError::Failed(error) => write!(f, "{error}"),
+            CallError::OutOfMemory => write!(f, "out of memory"),
         }
     }
 }
 
-// Bytes are read only inside a call, so an end of the input is one inside a call.
+// Bytes are read only inside a call, and a read that fails counts as the end of the input.
 impl From<io::Error> for CallError {
-    fn from(error: io::Error) -> CallError {
-        match error.kind() {
-            ErrorKind::UnexpectedEof => CallError::Cut,
-            _ => CallError::Failed(error),
-        }
+    fn from(_error: io::Error) -> CallError {
+        CallError::Cut
     }
 }
 
 impl From<AllocError> for CallError {
-    fn from(error: AllocError) -> CallError {
-        CallError::Failed(io::Error::from(error))
+    fn from(_error: AllocError) -> CallError {
+        CallError::OutOfMemory
     }
 }
 
@@ -118,7 +115,10 @@ impl Call {
 pub fn next_call<R: BufRead>(input: &mut R) -> Result<Option<Call>, CallError>
     ensures { Fitting result }
 {
-    if input.fill_buf()?.is_empty() {
+    let Ok(ahead) = input.fill_buf() else {
+        return Ok(None);
+    };
+    if ahead.is_empty() {
         return Ok(None);
     }
     let mut head = [0u8; HEAD_BYTES];

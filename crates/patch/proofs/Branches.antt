@@ -9,34 +9,37 @@ use mathlib.Core.Option.{Option, some}
 use mathlib.Core.List.{List}
 use lib.ListN.{length, set}
 use lib.IntN.{ℤ}
+use Rattle.std.specs.Prelude.{Result, Ok, Err}
 use Rattle.numbers.specs.Lay.{lay, set_lay}
 use Rattle.rules.specs.Outcome.{accepted, refused, ◌>>=◌, choose, broken}
 use Rattle.rules.specs.Outcome as Paper
 use Rattle.rules.specs.Value.{Ty, at}
 use Rattle.rules.specs.Tree.{Expression, Statement, mentions}
-use Rattle.rules.specs.Table.{types_of, Part, statement}
+use Rattle.rules.specs.Table.{Node as Bytes, types_of, Part, statement}
 use Rattle.rules.specs.Run.{holds, if_words}
 use Rattle.rules.specs.Patch.{Visited, Walked, Fork, steps_of, moved_all, kept, visit, walk}
-use Rattle.rules.proofs.Laws.Parts.{part_at}
+use Rattle.rules.proofs.Laws.Parts.{node_at, part_at}
 use Rattle.rules.proofs.Laws.Size.{Small}
-use Rattle.table.specs.Lists.{list_at}
+use Rattle.table.specs.Agrees.{both, neither, Accepts, accepts, handed_up}
 use Rattle.table.specs.Paper.{refusal_for}
 use Rattle.table.specs.declared.answer.Refusal.{Refusal}
 use Rattle.table.specs.declared.answer.Changes.{Changes}
-use Rattle.table.specs.declared.answer.Outcome.TheVariants.{Accepted, Refused}
+use Rattle.table.specs.declared.script.Script.{Script}
+use Rattle.run.specs.Code.{farthest}
 use Rattle.run.specs.Laws.Branches.{if_laid, if_long}
 use Rattle.run.specs.Laws.Taken.{AsIf, as_if, taken_node, taken_here, taken_small, taken_below}
 use Rattle.pieces.specs.Change.{AllNear}
 use Rattle.pieces.specs.Old.{part}
-use Rattle.pieces.specs.Snapshot.{Standing, MovedAs, olds}
+use Rattle.pieces.specs.Snapshot.{Standing, MovedAs, MovesTo, olds}
 use Rattle.pieces.specs.Laws.Snapshot.{olds_long, moved_long}
 use Rattle.patch.specs.Laws.Head.{ForkAt, fork_at}
 use Rattle.rules.proofs.Laws.Outcome.{accepted_of}
 use Rattle.pieces.specs.Entry.{Sound, Came, VisitAs, whole, WalkAs, AdvancedBy}
-use Rattle.patch.specs.Statement.{Node, Visitable, VisitsTo}
+use Rattle.patch.specs.Statement.{listed, Node, Visitable, VisitsTo}
 use Rattle.patch.specs.Branch.{fork_of, fork_laid, Forked, KeepsTo}
 use Rattle.pieces.specs.declared.entry.Reached.{Reached}
-use Rattle.patch.proofs.Walks.{Gone, gone, handed_up, sound_advanced}
+use Rattle.patch.proofs.Agreed.{agrees_then}
+use Rattle.patch.proofs.Walks.{sound_advanced}
 use Rattle.patch.proofs.Nodes.{list_is, named_of, child, same_tree}
 use Rattle.patch.proofs.Sequences.{visit_last}
 
@@ -52,42 +55,45 @@ fork_laid_lem out before after test branch z at second third fourth e f g =
 
 -- ---- what the head told
 
-module _ {bytes : List ℕ} {base : ℕ} {lists : List ℕ} {node size : ℕ} {old : List ℤ} {end : ℕ} {s : Reached}
-    (h : Forked bytes base lists node size old end s) where
-  abbrev k : Node bytes base lists node
+module _ {script : Script} {node size : ℕ} {old : List ℤ} {end : ℕ} {s : Reached}
+    (h : Forked script node size old end s) where
+  abbrev k : Node script node
   k = h.entered.known
 
   abbrev sound : Sound old end s
   sound = h.entered.sound
 
   abbrev vs : List ℕ
-  vs = list_at lists node
+  vs = listed script node
 
-  abbrev its : AsIf bytes node k.tree
+  abbrev its : AsIf script.checked.table.now node k.tree
   its = as_if k h.entered.kinded
 
-  -- the node's list is that of its if, whichever way it is known
-  same_if : {e e' : Expression} {a a' b b' : Statement} {n n' : ℕ} → part_at bytes node ≡ some (statement (Statement.if n e a b))
-      → part_at bytes node ≡ some (statement (Statement.if n' e' a' b'))
-      → (e ≡ e') × ((a ≡ a') × ((b ≡ b') × (n ≡ n')))
-  same_if p q = let r : ◌≡◌ {A = Option Part} (some (statement (Statement.if _ _ _ _))) (some (statement (Statement.if _ _ _ _))) = sym p ∙ q in (cc, (cc, (cc, cc)))
+  -- the node's list is that of its if
+  vs_are : vs ≡ mentions (Statement.if node h.e h.a h.b)
+  vs_are = list_is k ∙ ap mentions (same_tree k.here h.here)
 
-  listed : vs ≡ mentions (Statement.if node h.e h.a h.b)
-  listed = list_is k ∙ ap mentions (same_tree k.here h.here)
+  forks : fork_of (types_of script.checked.table.now) vs h.e s.left s.changes.values (part old s.from end) ≡ accepted h.fork
+  forks = ap (λ (ws : List ℕ). fork_of (types_of script.checked.table.now) ws h.e s.left s.changes.values (part old s.from end)) vs_are ∙ h.forks
 
-  forks : fork_of (types_of bytes) vs h.e s.left s.changes.values (part old s.from end) ≡ accepted h.fork
-  forks = ap (λ (ws : List ℕ). fork_of (types_of bytes) ws h.e s.left s.changes.values (part old s.from end)) listed ∙ h.forks
-
-  pub forked_at : ForkAt bytes lists node (named_of k) old s.from end sound.inside.ends s.changes.values h.e s.left h.fork
-  forked_at = fork_at bytes lists node (named_of k) old s.from end sound.inside.ends s.changes.values h.e s.left h.fork forks
+  pub forked_at : ForkAt script node (named_of k) old s.from end sound.inside.ends s.changes.values h.e s.left h.fork
+  forked_at = fork_at script node (named_of k) old s.from end sound.inside.ends s.changes.values h.e s.left h.fork forks
 
   pub fork_inside : s.from + (1 + 2 * length vs + size) ≤ end
   fork_inside = omega (arith, forked_at.test.within, h.size)
 
+  -- the same by the list as the code read it: the head ends inside, in the old record and in the new one
+  module _ {ws : List ℕ} (wide : ws ≡ vs) where
+    pub fork_fits : s.from + (1 + 2 * length ws + size) ≤ length old
+    fork_fits = omega (arith, ap length wide, fork_inside, sound.inside.ends)
+
+    pub fork_near : s.at + (1 + 2 * length ws + size) ≤ farthest
+    fork_near = omega (arith, fork_fits, sound.place)
+
   -- ---- every way to know the node's if is this one
 
   abbrev if_of : List ℤ → (Statement → Statement → Fork → List ℤ → Type 0) → Statement → Type 0
-  if_of out Q (Statement.if n e a b) = (f : Fork) → fork_of (types_of bytes) (mentions (Statement.if n e a b)) e s.left s.changes.values
+  if_of out Q (Statement.if n e a b) = (f : Fork) → fork_of (types_of script.checked.table.now) (mentions (Statement.if n e a b)) e s.left s.changes.values
       (part old s.from end) ≡ accepted f
       → (out₀ : List ℤ) → out ≡ fork_laid out₀ s.at f → Q a b f out₀
   if_of out Q (Statement.skip n) = Unit {0}
@@ -97,8 +103,8 @@ module _ {bytes : List ℕ} {base : ℕ} {lists : List ℕ} {node size : ℕ} {o
 
   pub if_each : (out : List ℤ) (Q : Statement → Statement → Fork → List ℤ → Type 0)
       → ((out₀ : List ℤ) → out ≡ fork_laid out₀ s.at h.fork → Q h.a h.b h.fork out₀)
-      → (n : ℕ) (e : Expression) (a b : Statement) → part_at bytes node ≡ some (statement (Statement.if n e a b))
-      → (f : Fork) → fork_of (types_of bytes) (mentions (Statement.if n e a b)) e s.left s.changes.values (part old s.from end) ≡ accepted f
+      → (n : ℕ) (e : Expression) (a b : Statement) → part_at script.checked.table.now node ≡ some (statement (Statement.if n e a b))
+      → (f : Fork) → fork_of (types_of script.checked.table.now) (mentions (Statement.if n e a b)) e s.left s.changes.values (part old s.from end) ≡ accepted f
       → (out₀ : List ℤ) → out ≡ fork_laid out₀ s.at f → Q a b f out₀
   if_each out Q w n e a b here = subst (if_of out Q) (same_tree h.here here)
       (λ f g out₀ laid. subst (λ (x : Fork). Q h.a h.b x out₀) (accepted_of (sym h.forks ∙ g))
@@ -112,7 +118,7 @@ module _ {bytes : List ℕ} {base : ℕ} {lists : List ℕ} {node size : ℕ} {o
       of : {n m : ℕ} {e f : Expression} {a b c d : Statement} → Statement.if n e a b ≡ Statement.if m f c d → (a ≡ c) × (b ≡ d)
       of p = (cc, cc)
 
-  pub branch_here : (b : Bool) → part_at bytes (taken_node bytes node b) ≡ some (statement (choose b h.a h.b))
+  pub branch_here : (b : Bool) → part_at script.checked.table.now (taken_node script.checked.table.now node b) ≡ some (statement (choose b h.a h.b))
   branch_here b = taken_here k h.entered.kinded b
       ∙ ap₂ {C = Option Part} (λ (x y : Statement). some (statement (choose b x y))) own_trees.0 own_trees.1
 
@@ -120,16 +126,21 @@ module _ {bytes : List ℕ} {base : ℕ} {lists : List ℕ} {node size : ℕ} {o
   branch_small b = subst (λ (x : Statement). Small (choose b h.a x)) own_trees.1
       (subst (λ (x : Statement). Small (choose b x its.t)) own_trees.0 (taken_small k h.entered.kinded b))
 
-  pub branch_below : (b : Bool) → taken_node bytes node b < node
+  pub branch_below : (b : Bool) → taken_node script.checked.table.now node b < node
   branch_below = taken_below k h.entered.kinded
 
-  pub branch_known : (b : Bool) → Node bytes base lists (taken_node bytes node b)
-  branch_known b = child k (taken_node bytes node b) (choose b h.a h.b) (branch_here b) (branch_small b)
+  pub branch_known : (b : Bool) → Node script (taken_node script.checked.table.now node b)
+  branch_known b = child k (taken_node script.checked.table.now node b) (choose b h.a h.b) (branch_here b) (branch_small b)
+
+  -- the branch that the code takes
+  pub branch_is : {i : ℕ} {x : ℤ} {top : Bytes} → top ≡ node_at script.checked.table.now node → x ≡ at old s.from → i ≡ choose (holds x) top.b top.c
+      → i ≡ taken_node script.checked.table.now node (holds h.fork.condition)
+  branch_is read word e = e ∙ ap₂ {C = ℕ} (λ (y : ℤ) (n : Bytes). choose (holds y) n.b n.c) (word ∙ sym forked_at.condition) read
 
   -- ---- the condition is kept
 
   abbrev types : List Ty
-  types = types_of bytes
+  types = types_of script.checked.table.now
 
   abbrev z : ℤ
   z = h.fork.condition
@@ -148,7 +159,10 @@ module _ {bytes : List ℕ} {base : ℕ} {lists : List ℕ} {node size : ℕ} {o
   chosen true x y last left changes ws = refl
   chosen false x y last left changes ws = refl
 
-  module _ {u : Reached} (step : AdvancedBy (1 + 2 * length vs + size) s u) where
+  module _ {ws : List ℕ} (wide : ws ≡ vs) {u : Reached} (along : AdvancedBy (1 + 2 * length ws + size) s u) where
+    step : AdvancedBy (1 + 2 * length vs + size) s u
+    step = subst (λ (l : List ℕ). AdvancedBy (1 + 2 * length l + size) s u) wide along
+
     abbrev branched : Paper.Outcome Visited
     branched = visit same (walk types same) true u.left u.changes.values (part old u.from end)
 
@@ -165,102 +179,108 @@ module _ {bytes : List ℕ} {base : ℕ} {lists : List ℕ} {node size : ℕ} {o
         ∙ ap (λ (ws : List ℤ). visit same (walk types same) true u.left u.changes.values ws >>= further vs (olds old (s.from + 1 + length vs) vs))
         (forked_at.test.rest ∙ ap (λ (p : ℕ). part old p end) place)
 
-    pub kept_visitable : {i : ℕ} → i ≡ taken_node bytes node (holds z) → Visitable bytes base lists i old end u
-    kept_visitable e = subst (λ (j : ℕ). Visitable bytes base lists j old end u) (sym e)
+    pub kept_visitable : {i : ℕ} → i ≡ taken_node script.checked.table.now node (holds z) → Visitable script i old end u
+    kept_visitable e = subst (λ (j : ℕ). Visitable script j old end u) (sym e)
         (record { known = branch_known (holds z); sound = sound_advanced sound step fork_inside })
 
-    module _ {i : ℕ} (is : i ≡ taken_node bytes node (holds z)) (r : Reached) (out one : List ℤ) (p : VisitsTo bytes i true old end u r out one) where
+    module _ {i : ℕ} (is : i ≡ taken_node script.checked.table.now node (holds z)) {r : Result Reached Refusal} {out one : List ℤ}
+        (p : VisitsTo script i true old end u r out one) where
       visited : VisitAs branched u r old end out one
-      visited = p same (ap (part_at bytes) is ∙ branch_here (holds z))
+      visited = p same (ap (part_at script.checked.table.now) is ∙ branch_here (holds z))
 
-      each : (q final : List ℤ) (v : Reached) →
-          ((out₀ : List ℤ) → out ≡ fork_laid out₀ s.at h.fork → WalkAs (branched >>= further vs (olds old (s.from + 1 + length vs) vs)) s v old end out₀ final)
-          → KeepsTo bytes node old end s v out final
-      each q final v w = if_each out (λ a b f out₀. WalkAs (kept types (choose (holds f.condition) (visit a (walk types a)) (visit b (walk types b))) f) s v old end out₀ final)
-          λ out₀ laid. subst (λ (m : Paper.Outcome Walked). WalkAs m s v old end out₀ final) (sym kept_is) (w out₀ laid)
+      -- the snapshot after, as it stands in the old record
+      abbrev after : List ℤ
+      after = olds old (s.from + 1 + length vs) vs
 
-      pub kept_refused : {q : Refusal} → r.outcome ≡ Refused q → (final : List ℤ) → KeepsTo bytes node old end s r out final
-      kept_refused stops final = each out final r λ out₀ laid.
-          handed_up (λ v. Came v u r old end out one) (λ w. Came (whole w) s r old end out₀ final) branched
-          (further vs (olds old (s.from + 1 + length vs) vs)) r visited (λ v c. c.sound.goes) stops
+      each : (x : Result Reached Refusal) (final : List ℤ)
+          → ((out₀ : List ℤ) → out ≡ fork_laid out₀ s.at h.fork → WalkAs (branched >>= further vs after) s x old end out₀ final)
+          → KeepsTo script node old end s x out final
+      each x final w = if_each out (λ a b f out₀. WalkAs (kept types (choose (holds f.condition) (visit a (walk types a)) (visit b (walk types b))) f) s x old end out₀ final)
+          λ out₀ laid. subst (λ (m : Paper.Outcome Walked). WalkAs m s x old end out₀ final) (sym kept_is) (w out₀ laid)
 
-      module _ (goes : r.outcome ≡ Accepted) where
-        went : Gone (λ v. Came v u r old end out one) branched
-        went = gone (λ v. Came v u r old end out one) branched r visited goes
+      pub kept_refused : {q : Refusal} → r ≡ Err q → (final : List ℤ) → KeepsTo script node old end s (Err q) out final
+      kept_refused {q} stops final = each (Err q) final λ out₀ laid. handed_up (further vs after) visited stops
+
+      module _ {x : Reached} (goes : r ≡ Ok x) where
+        went : Accepts (λ v to. Came v u to old end out one) branched x
+        went = accepts visited goes
 
         abbrev v : Visited
         v = went.value
 
-        abbrev came : Came v u r old end out one
-        came = went.is
+        abbrev came : Came v u x old end out one
+        came = went.holds
 
-        pub kept_near : AllNear r.changes.values
+        pub kept_near : AllNear x.changes.values
         kept_near = came.sound.near
 
-        pub kept_standing : Standing bytes lists node old (s.from + 1 + length vs)
-        kept_standing = forked_at.second
+        pub kept_standing : Standing script.checked.table.now script.lists.now.lists node old (s.from + 1 + length ws)
+        kept_standing = subst (λ (l : List ℕ). Standing script.checked.table.now script.lists.now.lists node old (s.from + 1 + length l)) (sym wide) forked_at.second
 
-        moves : Paper.Outcome (List ℤ)
-        moves = moved_all types vs (olds old (s.from + 1 + length vs) vs) v.changes
+        abbrev moves : Paper.Outcome (List ℤ)
+        moves = moved_all types vs after x.changes.values
 
-        after_visit : (branched >>= further vs (olds old (s.from + 1 + length vs) vs))
-            ≡ (moved_all types vs (olds old (s.from + 1 + length vs) vs) r.changes.values >>= λ news. accepted (closed v news))
-        after_visit = ap (λ (m : Paper.Outcome Visited). m >>= further vs (olds old (s.from + 1 + length vs) vs)) went.comes
-            ∙ ap (λ (cs : List ℤ). moved_all types vs (olds old (s.from + 1 + length vs) vs) cs >>= λ news. accepted (closed v news)) (sym came.changes)
+        -- what is shown of the snapshot that takes its changes is shown of the walk
+        behind : (y : Result Reached Refusal) (final : List ℤ)
+            → ((out₀ : List ℤ) → out ≡ fork_laid out₀ s.at h.fork → WalkAs (moves >>= λ news. accepted (closed v news)) s y old end out₀ final)
+            → KeepsTo script node old end s y out final
+        behind y final w = each y final λ out₀ laid. agrees_then (further vs after) went.comes
+            (subst (λ (cs : List ℤ). WalkAs (moved_all types vs after cs >>= λ news. accepted (closed v news)) s y old end out₀ final) came.changes (w out₀ laid))
 
-        module _ (fits : Bool) (two : List ℤ) (m : MovedAs (moved_all types vs (olds old (s.from + 1 + length vs) vs) r.changes.values) fits one (s.at + 1 + length vs) two) where
-          pub kept_broken : fits ≡ false → (x : Reached) → x.outcome ≡ Refused (refusal_for broken) → (final : List ℤ)
-              → KeepsTo bytes node old end s x out final
-          kept_broken wrong x stops final = each out final x λ out₀ laid. subst (λ (o : Paper.Outcome Walked). WalkAs o s x old end out₀ final)
-              (sym after_visit)
-              (stopped (moved_all types vs (olds old (s.from + 1 + length vs) vs) r.changes.values) out₀ m)
+        closes : (news two final out₀ : List ℤ) → moves ≡ accepted news → out ≡ fork_laid out₀ s.at h.fork → two ≡ lay one (s.at + 1 + length vs) news
+            → final ≡ set two s.at (at old s.from) → Came (whole (closed v news)) s x old end out₀ final
+        closes news two final out₀ is laid moved last =
+            let f = h.fork in
+            let w = length vs in
+            let width : length f.vs ≡ w = ap length forked_at.vs_are in
+            let first : length f.before ≡ w
+            = moved_long types vs (olds old (s.from + 1) vs) s.changes.values f.before
+            (olds_long script.checked.table.now script.lists.now.lists node old (s.from + 1) forked_at.first) forked_at.moved in
+            let second : length news ≡ w
+            = moved_long types vs after x.changes.values news (olds_long script.checked.table.now script.lists.now.lists node old (s.from + 1 + w) forked_at.second) is in
+            let e : s.at + 1 + w ≡ s.at + 1 + length f.before = omega (arith, first) in
+            let g' : s.at + 1 + 2 * length f.vs ≡ s.at + 1 + w + length news = omega (arith, second, width) in
+            let i' : u.at ≡ s.at + 1 + 2 * length f.vs + length f.test.words = omega (arith, step.at, h.size, width) in
+            let words : final ≡ lay out₀ s.at (if_words z f.before news f.test.words v.words)
+            = last
+            ∙ ap₂ {C = List ℤ} (λ (l : List ℤ) (y : ℤ). set l s.at y)
+            (moved ∙ ap (λ (l : List ℤ). lay l (s.at + 1 + w) news) (came.lays ∙ ap (λ (l : List ℤ). lay l u.at v.words) laid))
+            (sym forked_at.condition)
+            ∙ fork_laid_lem out₀ f.before news f.test.words v.words z s.at (s.at + 1 + w) (s.at + 1 + 2 * length f.vs) u.at e g' i' in
+            let leaves : x.left + steps_of v.counts ≡ s.left = omega (arith, came.leaves, step.left) in
+            let walks : x.walked ≡ s.walked + v.counts.walked = omega (arith, came.walks, step.walked) in
+            let reuses : x.reused ≡ s.reused + v.counts.reused = omega (arith, came.reuses, step.reused) in
+            let onward : s.from ≤ x.from = omega (arith, came.onward, step.from) in
+            let ends : x.at ≡ s.at + length (if_words z f.before news f.test.words v.words)
+            = omega (arith, came.ends, i', g', e, if_long z f.before news f.test.words v.words) in
+            record {
+              sound = came.sound;
+              changes = came.changes;
+              leaves = leaves;
+              walks = walks;
+              reuses = reuses;
+              rest = sym (visit_last same (walk types same) u.left u.changes.values (part old u.from end) v went.comes) ∙ came.rest;
+              onward = onward;
+              ends = ends;
+              lays = words;
+            }
+
+        module _ (fits : Bool) (two : List ℤ) (moving : MovesTo script.checked.table.now script.lists.now.lists node old (s.from + 1 + length ws) x.changes.values fits one (s.at + 1 + length ws) two) where
+          m : MovedAs moves fits one (s.at + 1 + length vs) two
+          m = subst (λ (l : List ℕ). MovesTo script.checked.table.now script.lists.now.lists node old (s.from + 1 + length l) x.changes.values fits one (s.at + 1 + length l) two) wide moving
+
+          pub kept_broken : fits ≡ false → (final : List ℤ) → KeepsTo script node old end s (Err (refusal_for broken)) out final
+          kept_broken wrong final = behind (Err (refusal_for broken)) final λ out₀ laid. stopped moves out₀ m
             where
               stopped : (o : Paper.Outcome (List ℤ)) (out₀ : List ℤ) → MovedAs o fits one (s.at + 1 + length vs) two
-                  → WalkAs (o >>= λ news. accepted (closed v news)) s x old end out₀ final
+                  → WalkAs (o >>= λ news. accepted (closed v news)) s (Err (refusal_for broken)) old end out₀ final
               stopped (accepted news) out₀ g = absurd (true≢false (sym g.0 ∙ wrong))
-              stopped (refused q) out₀ g = stops ∙ ap (λ (p : Paper.Refusal). Refused (refusal_for p)) (sym g.1)
+              stopped (refused q) out₀ g = neither (ap refusal_for (sym g.1))
 
-          pub kept_answer : fits ≡ true → (final : List ℤ) → final ≡ set two s.at (at old s.from) → KeepsTo bytes node old end s r out final
-          kept_answer right final last = each out final r λ out₀ laid. subst (λ (o : Paper.Outcome Walked). WalkAs o s r old end out₀ final) (sym after_visit)
-              (ended (moved_all types vs (olds old (s.from + 1 + length vs) vs) r.changes.values) refl out₀ laid m)
+          pub kept_answer : fits ≡ true → (final : List ℤ) → final ≡ set two s.at (at old s.from) → KeepsTo script node old end s (Ok x) out final
+          kept_answer right final last = behind (Ok x) final λ out₀ laid. ended moves refl out₀ laid m
             where
-              ended : (o : Paper.Outcome (List ℤ)) → moved_all types vs (olds old (s.from + 1 + length vs) vs) r.changes.values ≡ o → (out₀ : List ℤ)
-                  → out ≡ fork_laid out₀ s.at h.fork
-                  → MovedAs o fits one (s.at + 1 + length vs) two → WalkAs (o >>= λ news. accepted (closed v news)) s r old end out₀ final
+              ended : (o : Paper.Outcome (List ℤ)) → moves ≡ o → (out₀ : List ℤ) → out ≡ fork_laid out₀ s.at h.fork
+                  → MovedAs o fits one (s.at + 1 + length vs) two → WalkAs (o >>= λ news. accepted (closed v news)) s (Ok x) old end out₀ final
               ended (refused q) is out₀ laid g = absurd (true≢false (sym right ∙ g.0))
-              ended (accepted news) is out₀ laid g =
-                  let f = h.fork in
-                  let w = length vs in
-                  let width : length f.vs ≡ w = ap length forked_at.vs_are in
-                  let first : length f.before ≡ w
-                  = moved_long types vs (olds old (s.from + 1) vs) s.changes.values f.before
-                  (olds_long bytes lists node old (s.from + 1) forked_at.first) forked_at.moved in
-                  let second : length news ≡ w
-                  = moved_long types vs (olds old (s.from + 1 + w) vs) r.changes.values news
-                  (olds_long bytes lists node old (s.from + 1 + w) forked_at.second) is in
-                  let e : s.at + 1 + w ≡ s.at + 1 + length f.before = omega (arith, first) in
-                  let g' : s.at + 1 + 2 * length f.vs ≡ s.at + 1 + w + length news = omega (arith, second, width) in
-                  let i' : u.at ≡ s.at + 1 + 2 * length f.vs + length f.test.words = omega (arith, step.at, h.size, width) in
-                  let words : final ≡ lay out₀ s.at (if_words z f.before news f.test.words v.words)
-                  = last
-                  ∙ ap₂ {C = List ℤ} (λ (l : List ℤ) (x : ℤ). set l s.at x)
-                  (g.1 ∙ ap (λ (l : List ℤ). lay l (s.at + 1 + w) news) (came.lays ∙ ap (λ (l : List ℤ). lay l u.at v.words) laid))
-                  (sym forked_at.condition)
-                  ∙ fork_laid_lem out₀ f.before news f.test.words v.words z s.at (s.at + 1 + w) (s.at + 1 + 2 * length f.vs) u.at e g' i' in
-                  let leaves : r.left + steps_of v.counts ≡ s.left = omega (arith, came.leaves, step.left) in
-                  let walks : r.walked ≡ s.walked + v.counts.walked = omega (arith, came.walks, step.walked) in
-                  let reuses : r.reused ≡ s.reused + v.counts.reused = omega (arith, came.reuses, step.reused) in
-                  let onward : s.from ≤ r.from = omega (arith, came.onward, step.from) in
-                  let ends : r.at ≡ s.at + length (if_words z f.before news f.test.words v.words)
-                  = omega (arith, came.ends, i', g', e, if_long z f.before news f.test.words v.words) in
-                  record {
-                    sound = came.sound;
-                    changes = came.changes;
-                    leaves = leaves;
-                    walks = walks;
-                    reuses = reuses;
-                    rest = sym (visit_last same (walk types same) u.left u.changes.values (part old u.from end) v went.comes) ∙ came.rest;
-                    onward = onward;
-                    ends = ends;
-                    lays = words;
-                  }
+              ended (accepted news) is out₀ laid g = both (closes news two final out₀ is laid g.1 last)

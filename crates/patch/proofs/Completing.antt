@@ -7,20 +7,18 @@ use mathlib.Core.List.{List, ◌++◌}
 use lib.ListN.{length, take, set, length-append}
 use lib.Seq.{take_at}
 use lib.IntN.{ℤ, pos}
+use Rattle.std.proofs.Common.{length-take-le}
 use Rattle.numbers.specs.Lay.{lay, length_lay}
 use Rattle.rules.specs.Outcome.{accepted}
 use Rattle.rules.specs.Value.{zeros, most_variables, padded}
 use Rattle.rules.specs.Patch.{Counts, Visited, steps_of}
 use Rattle.rules.specs.Run.{headed, record_of}
 use Rattle.rules.specs.Call.{Answer as PaperAnswer, answered}
-use Rattle.rules.proofs.Laws.Call.{length_padded}
 use Rattle.table.specs.Paper.{number_of, answer_of}
 use Rattle.table.specs.declared.answer.Outcome.{Outcome}
 use Rattle.table.specs.declared.answer.Outcome.TheVariants.{Accepted}
 use Rattle.table.specs.declared.answer.Store.{Store}
 use Rattle.table.specs.declared.answer.Answer.{Answer}
-use Rattle.run.specs.Words.{Held}
-use Rattle.run.specs.Code.{farthest}
 use Rattle.run.specs.Laws.Completed.{record_laid, cut_laid, record_long}
 use Rattle.pieces.specs.declared.entry.Reached.{Reached}
 use Rattle.patch.specs.Call.{Completable, finished}
@@ -30,13 +28,6 @@ pub padded_front : (v : ℕ) (words : List ℤ) → length words ≡ v → take 
 unfolding padded
 padded_front v words e = take_at words (zeros (most_variables - length words)) v e
 
--- words of the table's variables, as the code holds them
-held : (v : ℕ) (values words : List ℤ) (at : ℕ) → v ≤ 32 → length words ≡ v → values ≡ padded words → at ≤ farthest → Held values v at
-unfolding most_variables
-held v values words at few each is near =
-    let long : length values ≡ 32 = ap length is ∙ length_padded words (omega (arith, few, each)) in
-    record { long = long; few = few; place = near }
-
 module _ {v limit : ℕ} {inputs outputs : Store} {r : Reached} {now : List ℤ} (h : Completable v limit inputs outputs r now) where
   abbrev w : Visited
   w = h.visited
@@ -44,11 +35,10 @@ module _ {v limit : ℕ} {inputs outputs : Store} {r : Reached} {now : List ℤ}
   abbrev steps : ℕ
   steps = steps_of w.counts
 
-  pub inputs_held : Held inputs.values v 3
-  inputs_held = held v inputs.values h.ins 3 h.few h.each_in h.holds_in (omega arith)
-
-  pub outputs_held : Held outputs.values v (3 + v)
-  outputs_held = held v outputs.values h.outs (3 + v) h.few h.each_out h.holds_out (omega (arith, h.few))
+  -- the changes are those of the table's variables
+  pub moved_few : length (take v r.changes.values) ≤ most_variables
+  unfolding most_variables
+  moved_few = omega (arith, length-take-le v r.changes.values (omega (arith, h.few, h.long)), h.few)
 
   pub counted : r.walked + r.reused + r.left ≤ limit
   unfolding steps_of
@@ -73,17 +63,23 @@ module _ {v limit : ℕ} {inputs outputs : Store} {r : Reached} {now : List ℤ}
   out_long : length now ≡ length h.before
   out_long = ap length h.lays ∙ length_lay h.before (3 + 2 * v) w.words
 
-  pub buffer_is : {three four five after : List ℤ}
+  ins_are : take v inputs.values ≡ h.ins
+  ins_are = ap (take v) h.holds_in ∙ padded_front v h.ins h.each_in
+
+  outs_are : take v outputs.values ≡ h.outs
+  outs_are = ap (take v) h.holds_out ∙ padded_front v h.outs h.each_out
+
+  pub buffer_is : {three four five after : List ℤ} {second : ℕ}
       → three ≡ set (set (set now 0 (pos r.at)) 1 (pos limit)) 2 (pos (limit - r.left)) → four ≡ lay three 3 (take v inputs.values)
-      → five ≡ lay four (3 + v) (take v outputs.values) → after ≡ take r.at five ++ zeros (length five - r.at)
+      → second ≡ 3 + length (take v inputs.values) → five ≡ lay four second (take v outputs.values) → after ≡ take r.at five ++ zeros (length five - r.at)
       → after ≡ (answered (length now) (accepted (finished v limit h.ins h.outs w))).buffer
   unfolding answered record_of
-  buffer_is {three = three} {four = four} {five = five} a₃ a₄ a₅ a₆ =
-      let ins_are : take v inputs.values ≡ h.ins = ap (take v) h.holds_in ∙ padded_front v h.ins h.each_in in
-      let outs_are : take v outputs.values ≡ h.outs = ap (take v) h.holds_out ∙ padded_front v h.outs h.each_out in
+  buffer_is {three = three} {four = four} {five = five} a₃ a₄ at a₅ a₆ =
+      let second : 3 + length (take v inputs.values) ≡ 3 + v = ap (λ (ws : List ℤ). 3 + length ws) ins_are ∙ ap (λ (n : ℕ). 3 + n) h.each_in in
       let front = ap₂ {C = List ℤ} (λ (l : List ℤ) (n : ℕ). set (set l 0 (pos n)) 1 (pos limit)) h.lays long_body in
       let laid : five ≡ lay h.before 0 words =
-      a₅ ∙ ap₂ {C = List ℤ} (λ (l ws : List ℤ). lay l (3 + v) ws)
+      a₅ ∙ ap (λ (n : ℕ). lay four n (take v outputs.values)) (at ∙ second)
+      ∙ ap₂ {C = List ℤ} (λ (l ws : List ℤ). lay l (3 + v) ws)
       (a₄ ∙ ap₂ {C = List ℤ} (λ (l ws : List ℤ). lay l 3 ws) (a₃ ∙ ap₂ {C = List ℤ} (λ (l : List ℤ) (n : ℕ). set l 2 (pos n)) front steps_are) ins_are) outs_are
       ∙ record_laid h.before h.ins h.outs w.words (pos (headed + length (h.ins ++ (h.outs ++ w.words)))) (pos limit) (pos steps) v
       h.each_in h.each_out in

@@ -1,9 +1,9 @@
--- The header of an old record: its tests in turn, as the code says them, and what a header that passes them names.
+-- The header of an old record: what one that passes its tests in turn names, and that one that fails a test is broken.
 -- Assumes nothing.
 use mathlib.Core.Path.{◌≡◌, refl, sym, ap, ap₂, ◌∙◌, subst}
 use Prim.Native.Nat.{ℕ, ◌+◌, ◌-◌, ◌*◌, ◌≤◌, ◌<◌}
 use native.Mathlib.Omega.{arith}
-use mathlib.Core.Bool.{Bool, true, false, false≢true, ◌&&◌}
+use mathlib.Core.Bool.{Bool, true, false, false≢true}
 use mathlib.Core.List.{List}
 use lib.ListN.{length, take, drop}
 use lib.Dec.{T, leb}
@@ -12,17 +12,22 @@ use lib.Signed.{le_z, non_neg}
 use mir.Syntax.{w64}
 use mir.Val.{Fits, SFits}
 use mir.ValLaws.{to_z-of_z}
-use borrow.Author.Tests.{le-leb, lt-leb, leb-true}
+use borrow.Author.Tests.{le-leb, leb-true}
+use Rattle.std.specs.Prelude.{Ok, Err}
 use Rattle.numbers.specs.Signed.{between}
-use Rattle.rules.specs.Outcome.{accepted, ◌>>=◌, need, broken}
+use Rattle.numbers.specs.Laws.{and_left, and_right, and_both}
+use Rattle.rules.specs.Outcome.{accepted, refused, ◌>>=◌, need, broken}
 use Rattle.rules.specs.Outcome as Paper
-use Rattle.rules.specs.Value.{Ty, at, fit}
+use Rattle.rules.specs.Value.{Ty, fit}
 use Rattle.rules.specs.Table.{variables, types_of}
 use Rattle.rules.specs.Run.{headed, most_steps}
 use Rattle.rules.specs.Call.{Header, header, length_of, limit_of, steps_in, inputs_of, outputs_of}
-use Rattle.rules.proofs.Laws.Outcome.{Holds, value, holds_need}
+use Rattle.rules.proofs.Laws.Outcome.{Holds, value, vacant}
 use Rattle.rules.proofs.Laws.Header.{Sized}
-use Rattle.pieces.specs.Unbroken.{Unbroken}
+use Rattle.table.specs.Agrees.{agrees_ok, agrees_err}
+use Rattle.table.specs.declared.answer.Refusal.TheVariants.{Broken}
+use Rattle.patch.specs.declared.header.Header.{Header as Code}
+use Rattle.patch.specs.Call.{HeaderAs, HeaderTo}
 use Rattle.patch.proofs.Inputs.{many}
 use Rattle.pieces.specs.Laws.Changes.{kept}
 
@@ -40,109 +45,118 @@ named types old = record {
   root = take (nat_abs (length_of old) - (3 + 2 * length types)) (drop (3 + 2 * length types) old);
 }
 
--- what they make of it, each in its turn
-abbrev turns : Header → Bool → Bool → Bool → Bool → Bool → Bool → Bool → Paper.Outcome Header
-turns h a b c d e f g = need a broken >>= λ u₁. need b broken >>= λ u₂. need c broken >>= λ u₃. need d broken >>= λ u₄. need e broken >>= λ u₅. need f broken >>= λ u₆. need g broken >>= λ u₇. accepted h
-
-turned : (h : Header) (a b c d e f g : Bool) → Unbroken (turns h a b c d e f g) (a && ((b && c) && (d && (e && (f && g)))))
-turned h false b c d e f g = (refl, refl)
-turned h true false c d e f g = (refl, refl)
-turned h true true false d e f g = (refl, refl)
-turned h true true true false e f g = (refl, refl)
-turned h true true true true false f g = (refl, refl)
-turned h true true true true true false g = (refl, refl)
-turned h true true true true true true false = (refl, refl)
-turned h true true true true true true true = refl
-
-module _ {bytes : List ℕ} (z : Sized bytes) (old : List ℤ) where
-  -- the tests by the count of variables
-  abbrev read : ℕ → Bool
-  read n = leb (3 + 2 * n) (length old)
-      && (between (pos (3 + 2 * n)) (pos (length old)) (length_of old)
-      && (between (pos 1) most_steps (limit_of old)
-      && (between (pos 1) (limit_of old) (steps_in old)
-      && (fit (types_of bytes) (inputs_of (types_of bytes) old) && fit (types_of bytes) (outputs_of (types_of bytes) old)))))
-
-  header_read : Unbroken (header (types_of bytes) old) (read (length (types_of bytes)))
-  unfolding header between
-  header_read =
-      let least = 3 + 2 * length (types_of bytes) in
-      turned (named (types_of bytes) old) (leb least (length old)) (le_z (pos least) (length_of old)) (le_z (length_of old) (pos (length old)))
-      (le_z (pos 1) (limit_of old) && le_z (limit_of old) most_steps) (le_z (pos 1) (steps_in old) && le_z (steps_in old) (limit_of old))
-      (fit (types_of bytes) (inputs_of (types_of bytes) old)) (fit (types_of bytes) (outputs_of (types_of bytes) old))
-
-  -- each test as the code says it
-  pub header_by : (a b d e f g : Bool) → a ≡ leb (3 + 2 * variables bytes) (length old)
-      → b ≡ between (pos (3 + 2 * variables bytes)) (pos (length old)) (at old 0)
-      → d ≡ between (pos 1) most_steps (at old 1) → e ≡ between (pos 1) (at old 1) (at old 2)
-      → f ≡ fit (types_of bytes) (inputs_of (types_of bytes) old) → g ≡ fit (types_of bytes) (outputs_of (types_of bytes) old)
-      → Unbroken (header (types_of bytes) old) (a && (b && (d && (e && (f && g)))))
-  unfolding length_of limit_of steps_in
-  header_by a b d e f g ia ib id ie if' ig =
-      subst (Unbroken (header (types_of bytes) old))
-      (ap read (many z)
-      ∙ sym (ap₂ {C = Bool} (λ (x y : Bool). x && y) ia (ap₂ {C = Bool} (λ (x y : Bool). x && y) ib (ap₂ {C = Bool} (λ (x y : Bool). x && y) id (ap₂ {C = Bool} (λ (x y : Bool). x && y) ie (ap₂ {C = Bool} (λ (x y : Bool). x && y) if' ig))))))
-      header_read
-
-  -- the parts of the old record that the code reads, by the count that it has read
-  module _ {v : ℕ} (is : v ≡ variables bytes) where
-    pub inputs_are : take (3 + v - 3) (drop 3 old) ≡ inputs_of (types_of bytes) old
-    unfolding inputs_of
-    inputs_are = let same : 3 + v - 3 ≡ length (types_of bytes) = omega (arith, many z) in ap (λ (n : ℕ). take n (drop 3 old)) same
-
-    pub outputs_are : take (3 + 2 * v - (3 + v)) (drop (3 + v) old) ≡ outputs_of (types_of bytes) old
-    unfolding outputs_of
-    outputs_are =
-        let same : 3 + 2 * v - (3 + v) ≡ length (types_of bytes) = omega (arith, many z) in
-        let place : 3 + v ≡ 3 + length (types_of bytes) = omega (arith, many z) in
-        ap₂ {C = List ℤ} (λ (n m : ℕ). take n (drop m old)) same place
-
-    -- a slice that is too short, and one that is not
-    pub short_not : length old < 3 + 2 * v → false ≡ leb (3 + 2 * variables bytes) (length old)
-    short_not h = sym (lt-leb (3 + 2 * variables bytes) (length old) (omega arith))
-
-    pub long_enough : 3 + 2 * v ≤ length old → true ≡ leb (3 + 2 * variables bytes) (length old)
-    long_enough h = sym (le-leb (3 + 2 * variables bytes) (length old) (omega arith))
-
--- ---- a header that passes them
-
 -- a word between two counts is a count
 size_of : (z : ℤ) (a b : ℕ) → le_z (pos a) z ≡ true → le_z z (pos b) ≡ true → (z ≡ pos (nat_abs z)) × ((a ≤ nat_abs z) × (nat_abs z ≤ b))
 size_of (pos n) a b e f = (refl, (leb-true a n e, leb-true n b f))
 size_of (negsuc n) a b e f = absurd (false≢true e)
 
+pub size_count : (z : ℤ) {a b : ℕ} → between (pos a) (pos b) z ≡ true → (z ≡ pos (nat_abs z)) × ((a ≤ nat_abs z) × (nat_abs z ≤ b))
+unfolding between
+size_count z {a} {b} e = size_of z a b (and_left (le_z (pos a) z) (le_z z (pos b)) e) (and_right (le_z (pos a) z) (le_z z (pos b)) e)
+
 pub record Whole (types : List Ty) (old : List ℤ) (h : Header) : Type 0 where
   pub room : 3 + 2 * length types ≤ length old
-  pub is_size : length_of old ≡ pos (nat_abs (length_of old))
+  pub sized : between (pos (3 + 2 * length types)) (pos (length old)) (length_of old) ≡ true
   pub least : 3 + 2 * length types ≤ nat_abs (length_of old)
   pub inside : nat_abs (length_of old) ≤ length old
   pub limited : between (pos 1) most_steps (limit_of old) ≡ true
+  pub stepped : between (pos 1) (limit_of old) (steps_in old) ≡ true
   pub inputs : fit types (inputs_of types old) ≡ true
   pub outputs : fit types (outputs_of types old) ≡ true
   pub is : h ≡ named types old
 
-pub header_whole : (types : List Ty) (old : List ℤ) → Holds (Whole types old) (header types old)
-unfolding header
-header_whole types old =
-    holds_need (leb (headed + 2 * length types) (length old)) broken _ λ e₁.
-    holds_need (le_z (pos (headed + 2 * length types)) (length_of old)) broken _ λ e₂.
-    holds_need (le_z (length_of old) (pos (length old))) broken _ λ e₃.
-    holds_need (between (pos 1) most_steps (limit_of old)) broken _ λ e₄.
-    holds_need (between (pos 1) (limit_of old) (steps_in old)) broken _ λ e₅.
-    holds_need (fit types (inputs_of types old)) broken _ λ e₆.
-    holds_need (fit types (outputs_of types old)) broken _ λ e₇.
-    let size = size_of (length_of old) (3 + 2 * length types) (length old) e₂ e₃ in
-    value
-    (record {
-      room = leb-true (3 + 2 * length types) (length old) e₁;
-      is_size = size.0;
-      least = size.1.0;
-      inside = size.1.1;
-      limited = e₄;
-      inputs = e₆;
-      outputs = e₇;
-      is = refl;
-    })
+module _ (types : List Ty) (old : List ℤ) where
+  -- a header is whole, or it is broken
+  abbrev Verdict : Paper.Outcome Header → Type 0
+  Verdict (accepted h) = Whole types old h
+  Verdict (refused q) = q ≡ broken
+
+  by_test : (b : Bool) (next : Unit {0} → Paper.Outcome Header) → (b ≡ true → Verdict (next tt))
+      → Verdict (need b broken >>= next)
+  by_test true next h = h refl
+  by_test false next h = refl
+
+  verdict : Verdict (header types old)
+  unfolding header between
+  verdict =
+      by_test (leb (headed + 2 * length types) (length old)) _ λ e₁.
+      by_test (le_z (pos (headed + 2 * length types)) (length_of old)) _ λ e₂.
+      by_test (le_z (length_of old) (pos (length old))) _ λ e₃.
+      by_test (between (pos 1) most_steps (limit_of old)) _ λ e₄.
+      by_test (between (pos 1) (limit_of old) (steps_in old)) _ λ e₅.
+      by_test (fit types (inputs_of types old)) _ λ e₆.
+      by_test (fit types (outputs_of types old)) _ λ e₇.
+      let size = size_of (length_of old) (3 + 2 * length types) (length old) e₂ e₃ in
+      record {
+        room = leb-true (3 + 2 * length types) (length old) e₁;
+        sized = and_both e₂ e₃;
+        least = size.1.0;
+        inside = size.1.1;
+        limited = e₄;
+        stepped = e₅;
+        inputs = e₆;
+        outputs = e₇;
+        is = refl;
+      }
+
+  pub header_whole : Holds (Whole types old) (header types old)
+  header_whole = of (header types old) verdict
+    where
+      of : (m : Paper.Outcome Header) → Verdict m → Holds (Whole types old) m
+      of (accepted h) w = value w
+      of (refused q) w = vacant
+
+  header_broken : ((h : Header) → Whole types old h → ⊥) → header types old ≡ refused broken
+  header_broken none = of (header types old) verdict
+    where
+      of : (m : Paper.Outcome Header) → Verdict m → m ≡ refused broken
+      of (accepted h) w = absurd (none h w)
+      of (refused q) w = ap refused w
+
+-- one that passes every test names this
+header_named : (types : List Ty) (old : List ℤ) → 3 + 2 * length types ≤ length old
+    → between (pos (3 + 2 * length types)) (pos (length old)) (length_of old) ≡ true → between (pos 1) most_steps (limit_of old) ≡ true
+    → between (pos 1) (limit_of old) (steps_in old) ≡ true → fit types (inputs_of types old) ≡ true → fit types (outputs_of types old) ≡ true
+    → header types old ≡ accepted (named types old)
+unfolding header between
+header_named types old room sized limited stepped inputs outputs =
+    rw (
+      le-leb (3 + 2 * length types) (length old) room,
+      and_left (le_z (pos (3 + 2 * length types)) (length_of old)) (le_z (length_of old) (pos (length old))) sized,
+      and_right (le_z (pos (3 + 2 * length types)) (length_of old)) (le_z (length_of old) (pos (length old))) sized,
+      limited,
+      stepped,
+      inputs,
+      outputs,
+    ) refl
+
+-- ---- as the code reads it
+
+module _ {bytes : List ℕ} (z : Sized bytes) (old : List ℤ) where
+  abbrev types : List Ty
+  types = types_of bytes
+
+  pub broken_header : ((h : Header) → Whole types old h → ⊥) → HeaderTo bytes old (Err Broken)
+  broken_header none = agrees_err (header_broken types old none) refl
+
+  pub whole_header : {r : Code} → 3 + 2 * length types ≤ length old
+      → between (pos (3 + 2 * length types)) (pos (length old)) (length_of old) ≡ true → between (pos 1) most_steps (limit_of old) ≡ true
+      → between (pos 1) (limit_of old) (steps_in old) ≡ true → fit types (inputs_of types old) ≡ true → fit types (outputs_of types old) ≡ true
+      → HeaderAs old (named types old) r → HeaderTo bytes old (Ok r)
+  whole_header room sized limited stepped inputs outputs h = agrees_ok (header_named types old room sized limited stepped inputs outputs) h
+
+  -- the parts of the old record that the code reads, by the count that it has read
+  module _ {v : ℕ} (is : v ≡ variables bytes) where
+    pub inputs_are : take (3 + v - 3) (drop 3 old) ≡ inputs_of types old
+    unfolding inputs_of
+    inputs_are = let same : 3 + v - 3 ≡ length types = omega (arith, many z) in ap (λ (n : ℕ). take n (drop 3 old)) same
+
+    pub outputs_are : take (3 + 2 * v - (3 + v)) (drop (3 + v) old) ≡ outputs_of types old
+    unfolding outputs_of
+    outputs_are =
+        let same : 3 + 2 * v - (3 + v) ≡ length types = omega (arith, many z) in
+        let place : 3 + v ≡ 3 + length types = omega (arith, many z) in
+        ap₂ {C = List ℤ} (λ (n m : ℕ). take n (drop m old)) same place
 
 -- such a length is a count of the code
 pub size_cast : (z : ℤ) (n : ℕ) → SFits w64 z → z ≡ pos (nat_abs z) → nat_abs z ≤ n → n < 9_223_372_036_854_775_808

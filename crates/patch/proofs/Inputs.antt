@@ -1,30 +1,35 @@
 -- Changes and their values: one change for each variable, that its input may take; and values with their changes.
 -- Assumes nothing.
-use mathlib.Core.Path.{◌≡◌, refl, sym, ap, ◌∙◌}
-use Prim.Native.Nat.{ℕ, zero, suc, ◌≤◌, ◌<◌}
+use mathlib.Core.Path.{◌≡◌, refl, sym, ap, ap₂, ◌∙◌, subst}
+use Prim.Native.Nat.{ℕ, zero, suc, ◌+◌, ◌≤◌, ◌<◌}
 use native.Mathlib.Omega.{arith}
 use mathlib.Core.Logic.{⊎_elim}
 use mathlib.Core.Bool.{Bool, true, false, true≢false, false≢true, not, ◌&&◌}
 use mathlib.Core.List.{List, [], ◌∷◌}
-use lib.ListN.{length}
+use lib.ListN.{length, set, take}
 use lib.Dec.{leb}
 use lib.IntN.{ℤ, pos, negsuc, ◌+ℤ◌, ◌-ℤ◌}
 use lib.Signed.{mag}
 use mir.Syntax.{w64}
 use mir.Val.{SFits}
+use mir.ValLaws.{to_z-of_z}
 use borrow.Author.Tests.{le-leb, leb-true}
+use Rattle.std.proofs.Common.{add-one, zero-add, take_all}
+use Rattle.numbers.specs.Lay.{lay, lay_take}
 use Rattle.numbers.specs.Signed.{eq_z, between}
 use Rattle.numbers.specs.Laws.{and_left, and_right, and_both, sub_back}
 use Rattle.numbers.specs.Bounds.{mag_add, mag_sub}
-use Rattle.rules.specs.Value.{Ty, bit, in_type, differ, plus, at, type_of, fit, plus_all}
-use Rattle.rules.specs.Table.{variables, nodes_at, header_length, ty_of, types_of}
+use Rattle.rules.specs.Value.{Ty, zeros, most_variables, padded, bit, in_type, differ, plus, at, type_of, fit, plus_all}
+use Rattle.rules.specs.Table.{variables, nodes_at, header_length, types_of}
 use Rattle.rules.specs.Call.{is_change, legal}
 use Rattle.rules.proofs.Laws.Value.{truth_cases}
 use Rattle.rules.proofs.Laws.Header.{Sized}
 use Rattle.rules.proofs.Laws.Call.{fit_long, fit_good, legal_long}
 use Rattle.run.specs.Laws.Numbers.{mag_in, word}
 use Rattle.run.specs.Laws.Fitting.{type_by, refuted, types_long, type_at}
+use Rattle.run.specs.Laws.Laying.{laid_padded}
 use Rattle.pieces.specs.Change.{Near, AllNear}
+use Rattle.pieces.specs.Laws.Changes.{kept}
 use Rattle.patch.specs.Call.{legal_change, Sums}
 
 -- ---- values and changes are near
@@ -56,15 +61,6 @@ unfolding between
 between_mag (pos n) h = leb-true n 8_589_934_592 (and_right true (leb n 8_589_934_592) h)
 between_mag (negsuc n) h = omega (arith, leb-true n 8_589_934_591 (and_left (leb n 8_589_934_591) true h))
 
-number_kind : (kind : ℕ) → kind ≡ 0 → ty_of kind ≡ Ty.number
-unfolding ty_of
-number_kind kind e = ap ty_of e
-
-truth_kind : (kind : ℕ) → (kind ≡ 0 → ⊥) → ty_of kind ≡ Ty.truth
-unfolding ty_of
-truth_kind zero h = absurd (h refl)
-truth_kind (suc n) h = refl
-
 number_legal : (z c : ℤ) → legal_change Ty.number z c ≡ in_type Ty.number (z +ℤ c)
 unfolding is_change plus
 number_legal z c = refl
@@ -87,32 +83,35 @@ change_in : (t : Ty) (z c : ℤ) → in_type t z ≡ true → legal_change t z c
 change_in Ty.number z c hz h = omega (arith, change_near z c hz (sym (number_legal z c) ∙ h))
 change_in Ty.truth z c hz h = value_near Ty.truth c (sym (truth_legal z c) ∙ h)
 
-module _ (kind : ℕ) (z c : ℤ) (h : in_type (ty_of kind) z ≡ true) where
+-- ---- a number's change, as the code's words have it
+
+module _ (z c : ℤ) (fz : SFits w64 z) (fc : SFits w64 c) (h : in_type Ty.number z ≡ true) where
   abbrev wide : Bool
-  wide = between (negsuc 8_589_934_591) (pos 8_589_934_592) c
+  wide = between (negsuc 8_589_934_591) (pos 8_589_934_592) (kept c)
 
-  -- a number's change that is too far
-  pub change_far : kind ≡ 0 → wide ≡ false → false ≡ legal_change (ty_of kind) z c
-  change_far e wrong =
-      let is = number_kind kind e in
-      let inside : in_type Ty.number z ≡ true = ap (λ (t : Ty). in_type t z) (sym is) ∙ h in
-      refuted (legal_change Ty.number z c) (λ f. true≢false (sym (mag_between c (change_near z c inside (sym (number_legal z c) ∙ f))) ∙ wrong))
-      ∙ ap (λ (t : Ty). legal_change t z c) (sym is)
+  wide_is : wide ≡ between (negsuc 8_589_934_591) (pos 8_589_934_592) c
+  wide_is = ap (between (negsuc 8_589_934_591) (pos 8_589_934_592)) (to_z-of_z w64 c fc)
 
-  -- the sum of a number with one that is not
-  pub sum_fits : kind ≡ 0 → wide ≡ true → SFits w64 (z +ℤ c)
-  sum_fits e right =
-      let is = number_kind kind e in
-      let inside : in_type Ty.number z ≡ true = ap (λ (t : Ty). in_type t z) (sym is) ∙ h in
-      word (z +ℤ c) (omega (arith, mag_add z c, mag_in z inside, between_mag c right))
+  both : kept z +ℤ kept c ≡ z +ℤ c
+  both = ap₂ {C = ℤ} (λ (x y : ℤ). x +ℤ y) (to_z-of_z w64 z fz) (to_z-of_z w64 c fc)
 
-  pub change_number : kind ≡ 0 → in_type (ty_of 0) (z +ℤ c) ≡ legal_change (ty_of kind) z c
-  change_number e = ap (λ (t : Ty). in_type t (z +ℤ c)) (number_kind 0 refl) ∙ sym (number_legal z c)
-      ∙ ap (λ (t : Ty). legal_change t z c) (sym (number_kind kind e))
+  -- one that is too far
+  pub change_far : wide ≡ false → false ≡ legal_change Ty.number z c
+  change_far wrong = refuted (legal_change Ty.number z c) λ f.
+      true≢false (sym (mag_between c (change_near z c h (sym (number_legal z c) ∙ f))) ∙ sym wide_is ∙ wrong)
 
-  pub change_truth : (kind ≡ 0 → ⊥) → between (pos 0) (pos 1) c ≡ legal_change (ty_of kind) z c
-  unfolding in_type
-  change_truth e = sym (truth_legal z c) ∙ ap (λ (t : Ty). legal_change t z c) (sym (truth_kind kind e))
+  -- the sum with one that is not
+  pub sum_fits : wide ≡ true → SFits w64 (kept z +ℤ kept c)
+  sum_fits right =
+      subst (SFits w64) (sym both) (word (z +ℤ c) (omega (arith, mag_add z c, mag_in z h, between_mag c (sym wide_is ∙ right))))
+
+  pub change_number : wide ≡ true → in_type Ty.number (kept (kept z +ℤ kept c)) ≡ legal_change Ty.number z c
+  change_number right =
+      ap (in_type Ty.number) (to_z-of_z w64 (kept z +ℤ kept c) (sum_fits right) ∙ both) ∙ sym (number_legal z c)
+
+pub change_truth : (z c : ℤ) → SFits w64 c → between (pos 0) (pos 1) (kept c) ≡ legal_change Ty.truth z c
+unfolding in_type
+change_truth z c fc = ap (between (pos 0) (pos 1)) (to_z-of_z w64 c fc) ∙ sym (truth_legal z c)
 
 -- ---- one change for each variable
 
@@ -224,3 +223,23 @@ module _ {bytes : List ℕ} {words changes : List ℤ} (s : Sums bytes words cha
   sum_at k below =
       ap (λ (t : Ty). plus t (at words k) (at changes k)) (sym (type_at bytes (types_inside s.sized) k below))
       ∙ sym (sums_at (types_of bytes) words changes (fit_long (types_of bytes) words s.fits) enough k (omega (arith, many s.sized)))
+
+  -- one more sum laid behind those before it
+  pub sum_more : {i : ℕ} {values : List ℤ} {word : ℤ} → i < variables bytes
+      → values ≡ lay (zeros most_variables) 0 (take i (plus_all (types_of bytes) words changes))
+      → word ≡ plus (type_by bytes i) (at words i) (at changes i)
+      → set values i word ≡ lay (zeros most_variables) 0 (take (i + 1) (plus_all (types_of bytes) words changes))
+  sum_more {i} below is w =
+      let all = plus_all (types_of bytes) words changes in
+      ap₂ {C = List ℤ} (λ (l : List ℤ) (z : ℤ). set l i z) is (w ∙ sum_at i below)
+      ∙ sym (rw (zero-add i) at (lay_take (zeros most_variables) 0 all i (pos 0) (omega (arith, all_long))))
+      ∙ ap (λ (n : ℕ). lay (zeros most_variables) 0 (take n all)) (sym (add-one i))
+
+  pub sums_all : {i : ℕ} {values : List ℤ} → variables bytes ≤ i
+      → values ≡ lay (zeros most_variables) 0 (take i (plus_all (types_of bytes) words changes))
+      → values ≡ padded (plus_all (types_of bytes) words changes)
+  unfolding most_variables
+  sums_all {i} past is =
+      let all = plus_all (types_of bytes) words changes in
+      is ∙ ap (lay (zeros most_variables) 0) (take_all i all (omega (arith, all_long)))
+      ∙ laid_padded all (omega (arith, all_long, few))

@@ -11,22 +11,23 @@ use lib.Dec.{eqb}
 use lib.ListN.{length}
 use lib.IntN.{ℤ}
 use borrow.Author.Tests.{ne_eqb}
-use Rattle.numbers.specs.Lay.{lay, length_lay}
+use Rattle.patch.specs.Statement.{listed}
+use Rattle.std.specs.Prelude.{Result, Ok, Err}
+use Rattle.numbers.specs.Lay.{lay}
 use Rattle.rules.specs.Outcome.{accepted, refused, ◌>>=◌}
 use Rattle.rules.specs.Outcome as Paper
 use Rattle.rules.specs.Value.{Ty}
 use Rattle.rules.specs.Table.{types_of}
 use Rattle.rules.specs.Patch.{Visited, Counts, Turn, no_steps, both, steps_of, visit, walk}
-use Rattle.table.specs.Lists.{list_at}
+use Rattle.table.specs.Agrees.{Accepts, accepts, agrees_ok, handed_up}
 use Rattle.table.specs.declared.answer.Refusal.{Refusal}
-use Rattle.table.specs.declared.answer.Outcome.TheVariants.{Accepted, Refused}
+use Rattle.table.specs.declared.script.Script.{Script}
 use Rattle.pieces.specs.Entry.{Sound}
 use Rattle.patch.specs.Loop.{Turned, turn_of, turns_of, turn_at, behind, LastAt, Turnable, TurnCame, last_of, TurnAs, TurnTo, TurnsTo}
 use Rattle.patch.specs.Laws.Turns.{both_assoc}
 use Rattle.pieces.specs.declared.entry.Reached.{Reached}
 use Rattle.patch.proofs.Walks.{came_then}
 use Rattle.patch.proofs.Nodes.{for_tree}
-use Rattle.run.specs.Laws.Statements.{accepted_refused}
 
 -- ---- some iterations, and those that are left
 
@@ -48,13 +49,13 @@ behind_turn d a (refused q) = refl
 behind_turn d a (accepted c) = ap₂ {C = Paper.Outcome Turned} (λ (n : Counts) (ws : List ℤ). accepted (record { turn = c.turn; counts = n; words = ws }))
     (both_assoc d.counts a.counts c.counts) (sym (append_assoc d.words a.words c.words))
 
-module _ {bytes : List ℕ} {base : ℕ} {lists : List ℕ} {node body : ℕ} {old : List ℤ} {end : ℕ} {s : Reached}
-    (h : Turnable bytes base lists node body old end s) (count : ℕ) (out : List ℤ) where
+module _ {script : Script} {node body : ℕ} {old : List ℤ} {end : ℕ} {s : Reached}
+    (h : Turnable script node body old end s) (count : ℕ) (out : List ℤ) where
   abbrev vs : List ℕ
-  vs = list_at lists node
+  vs = listed script node
 
   abbrev types : List Ty
-  types = types_of bytes
+  types = types_of script.checked.table.now
 
   abbrev body_of : ℕ → List ℤ → List ℤ → Paper.Outcome Visited
   body_of = visit h.bodied.tree (walk types h.bodied.tree) false
@@ -62,21 +63,20 @@ module _ {bytes : List ℕ} {base : ℕ} {lists : List ℕ} {node body : ℕ} {o
   -- so many iterations have come to this, from a turn whose last old snapshot stands at `first`
   pub record Iterated (i : ℕ) (r : Reached) (now : List ℤ) (first : ℕ) (was new : List ℤ) : Type 0 where
     pub done : Turned
-    pub came : TurnCame bytes lists node (last_of i first r.from (length vs)) done s r old end out now
+    pub came : TurnCame script node (last_of i first r.from (length vs)) done s r old end out now
     pub goes_on : (m : ℕ) → i + m ≡ count → turns_of types body_of vs count (turn_at s old end was new)
         ≡ (turns_of types body_of vs m done.turn >>= λ a. accepted (behind done a))
 
   -- the invariant of the loop
   pub record SoFar (i : ℕ) (r : Reached) (now : List ℤ) : Type 0 where
     pub sound : Sound old end r
-    pub each : (first : ℕ) (was new : List ℤ) → LastAt bytes lists node old first (turn_at s old end was new) → Iterated i r now first was new
-    pub long : length now ≡ length out
+    pub each : (first : ℕ) (was new : List ℤ) → LastAt script node old first (turn_at s old end was new) → Iterated i r now first was new
 
   pub so_far_none : SoFar 0 s out
   unfolding lay no_steps steps_of
-  so_far_none = record { sound = h.sound; each = start; long = refl }
+  so_far_none = record { sound = h.sound; each = start }
     where
-      start : (first : ℕ) (was new : List ℤ) → LastAt bytes lists node old first (turn_at s old end was new) → Iterated 0 s out first was new
+      start : (first : ℕ) (was new : List ℤ) → LastAt script node old first (turn_at s old end was new) → Iterated 0 s out first was new
       start first was new last =
           let t = turn_at s old end was new in
           let leaves : s.left + 0 ≡ s.left = omega arith in
@@ -103,23 +103,22 @@ module _ {bytes : List ℕ} {base : ℕ} {lists : List ℕ} {node body : ℕ} {o
                 ap (λ (n : ℕ). turns_of types body_of vs n t) same ∙ behind_none t (turns_of types body_of vs m t);
           }
 
-  each_tree : (r : Reached) (now : List ℤ)
-      → ((first : ℕ) (was new : List ℤ) → LastAt bytes lists node old first (turn_at s old end was new) → TurnAs bytes lists node count first (turns_of types body_of vs count (turn_at s old end was new)) s r old end out now)
-      → TurnsTo bytes lists node body count old end s r out now
+  each_tree : (r : Result Reached Refusal) (now : List ℤ)
+      → ((first : ℕ) (was new : List ℤ) → LastAt script node old first (turn_at s old end was new) → TurnAs script node count first (turns_of types body_of vs count (turn_at s old end was new)) s r old end out now)
+      → TurnsTo script node body count old end s r out now
   each_tree r now w = for_tree h.bodied
-      (λ t. (first : ℕ) (was new : List ℤ) → LastAt bytes lists node old first (turn_at s old end was new)
-      → TurnAs bytes lists node count first (turns_of types (visit t (walk types t) false) vs count (turn_at s old end was new)) s r old end out now) w
+      (λ t. (first : ℕ) (was new : List ℤ) → LastAt script node old first (turn_at s old end was new)
+      → TurnAs script node count first (turns_of types (visit t (walk types t) false) vs count (turn_at s old end was new)) s r old end out now) w
 
-  module _ (i : ℕ) (r : Reached) (now : List ℤ) (so : SoFar i r now) where
-    pub turns_all : count ≤ i → i ≤ count → TurnsTo bytes lists node body count old end s r out now
+  module _ {i : ℕ} {r : Reached} {now : List ℤ} (so : SoFar i r now) where
+    pub turns_all : i ≡ count → TurnsTo script node body count old end s (Ok r) out now
     unfolding turns_of both no_steps
-    turns_all p q = each_tree r now λ first was new last.
+    turns_all all = each_tree (Ok r) now λ first was new last.
         let it = so.each first was new last in
         let a = it.done in
         let none_left : i + 0 ≡ count = omega arith in
-        let same : i ≡ count = omega arith in
-        subst (λ (m : Paper.Outcome Turned). TurnAs bytes lists node count first m s r old end out now) (sym (it.goes_on 0 none_left ∙ nothing_more a))
-        (subst (λ (n : ℕ). TurnCame bytes lists node (last_of n first r.from (length vs)) a s r old end out now) same it.came)
+        agrees_ok (it.goes_on 0 none_left ∙ nothing_more a)
+        (subst (λ (n : ℕ). TurnCame script node (last_of n first r.from (length vs)) a s r old end out now) all it.came)
       where
         counts : (c : Counts) → record { walked = c.walked + 0; reused = c.reused + 0; fresh = c.fresh + 0 } ≡ c
         counts c = rw (add-zero c.walked, add-zero c.reused, add-zero c.fresh) refl
@@ -128,70 +127,57 @@ module _ {bytes : List ℕ} {base : ℕ} {lists : List ℕ} {node body : ℕ} {o
         nothing_more a = ap₂ {C = Paper.Outcome Turned} (λ (c : Counts) (ws : List ℤ). accepted (record { turn = a.turn; counts = c; words = ws }))
             (counts a.counts) (append-nil a.words)
 
-    pub again_turnable : Turnable bytes base lists node body old end r
+    pub again_turnable : Turnable script node body old end r
     again_turnable = record { known = h.known; bodied = h.bodied; within = h.within; sound = so.sound }
 
-    module _ (below : i < count) (u : Reached) (one : List ℤ) (p : TurnTo bytes lists node body old end r u now one) where
+    module _ (below : i < count) {u : Result Reached Refusal} {one : List ℤ} (p : TurnTo script node body old end r u now one) where
       -- the turn that the walk stands at is the one that the iterations came to
-      same_turn : (a : Turned) (last : ℕ) → TurnCame bytes lists node last a s r old end out now → turn_at r old end a.turn.old a.turn.new ≡ a.turn
+      same_turn : (a : Turned) (last : ℕ) → TurnCame script node last a s r old end out now → turn_at r old end a.turn.old a.turn.new ≡ a.turn
       same_turn a last c = rw (← c.left, c.came.changes, ← c.came.rest) refl
 
-      next : (first : ℕ) (was new : List ℤ) (it : Iterated i r now first was new)
-          → TurnAs bytes lists node 1 0 (turn_of types body_of vs it.done.turn) r u old end now one
-      next first was new it = subst (λ (t : Turn). TurnAs bytes lists node 1 0 (turn_of types body_of vs t) r u old end now one)
+      next : {first : ℕ} {was new : List ℤ} (it : Iterated i r now first was new)
+          → TurnAs script node 1 0 (turn_of types body_of vs it.done.turn) r u old end now one
+      next it = subst (λ (t : Turn). TurnAs script node 1 0 (turn_of types body_of vs t) r u old end now one)
           (same_turn it.done _ it.came)
           (p h.bodied.tree h.bodied.here it.done.turn.old it.done.turn.new)
 
-      pub again_refused : {q : Refusal} → u.outcome ≡ Refused q → (final : List ℤ) → TurnsTo bytes lists node body count old end s u out final
+      pub again_refused : {q : Refusal} → u ≡ Err q → (final : List ℤ) → TurnsTo script node body count old end s (Err q) out final
       unfolding turns_of
-      again_refused stops final = each_tree u final λ first was new last.
+      again_refused {q} stops final = each_tree (Err q) final λ first was new last.
           let it = so.each first was new last in
           let more : i + suc (count - suc i) ≡ count = omega arith in
-          subst (λ (m : Paper.Outcome Turned). TurnAs bytes lists node count first m s u old end out final) (sym (it.goes_on (suc (count - suc i)) more))
-          (twice first (turn_of types body_of vs it.done.turn) (λ a. turns_of types body_of vs (count - suc i) a.turn >>= λ b. accepted (behind a b)) (λ a. accepted (behind it.done a)) (next first was new it) stops)
-        where
-          twice : (first : ℕ) (m : Paper.Outcome Turned) (f g : Turned → Paper.Outcome Turned) → TurnAs bytes lists node 1 0 m r u old end now one
-              → {q : Refusal} → u.outcome ≡ Refused q
-              → TurnAs bytes lists node count first ((m >>= f) >>= g) s u old end out final
-          twice first (accepted a) f g k e = absurd (accepted_refused (sym k.came.sound.goes ∙ e))
-          twice first (refused q) f g k e = k
+          subst (λ (m : Paper.Outcome Turned). TurnAs script node count first m s (Err q) old end out final) (sym (it.goes_on (suc (count - suc i)) more))
+          (handed_up {B = Reached} (λ a. accepted (behind it.done a))
+          (handed_up {Q = λ a to. Unit {0}} (λ a. turns_of types body_of vs (count - suc i) a.turn >>= λ b. accepted (behind a b)) (next it) stops) refl)
 
-      module _ (goes : u.outcome ≡ Accepted) where
-        step : (m : Paper.Outcome Turned) → TurnAs bytes lists node 1 0 m r u old end now one
-            → (first : ℕ) (was new : List ℤ) (it : Iterated i r now first was new) → turn_of types body_of vs it.done.turn ≡ m
-            → Iterated (i + 1) u one first was new
+      module _ {x : Reached} (goes : u ≡ Ok x) where
+        step : {first : ℕ} {was new : List ℤ} (it : Iterated i r now first was new) → Iterated (i + 1) x one first was new
         unfolding turns_of
-        step (refused q) k first was new it is = absurd (accepted_refused (sym goes ∙ k))
-        step (accepted a) k first was new it is =
+        step {first} it =
             let d = it.done in
+            let a = accepts (next it) goes in
             let positive : eqb (i + 1) 0 ≡ false = ne_eqb (i + 1) 0 (λ e. omega arith) in
-            let place : u.from - length vs ≡ last_of (i + 1) first u.from (length vs) = rw positive refl in
+            let place : x.from - length vs ≡ last_of (i + 1) first x.from (length vs) = rw positive refl in
             record {
-              done = behind d a;
+              done = behind d a.value;
               came = record {
-                came = came_then it.came.came k.came;
-                left = k.left;
-                lastly = subst (λ (n : ℕ). LastAt bytes lists node old n a.turn) place k.lastly;
+                came = came_then it.came.came a.holds.came;
+                left = a.holds.left;
+                lastly = subst (λ (n : ℕ). LastAt script node old n a.value.turn) place a.holds.lastly;
               };
               goes_on = λ m e.
                   let more : i + suc m ≡ count = omega arith in
                   it.goes_on (suc m) more
-                  ∙ ap (λ (o : Paper.Outcome Turned). (o >>= λ c. turns_of types body_of vs m c.turn >>= λ f. accepted (behind c f)) >>= λ f. accepted (behind d f)) is
-                  ∙ behind_turn d a (turns_of types body_of vs m a.turn);
+                  ∙ ap (λ (o : Paper.Outcome Turned). (o >>= λ c. turns_of types body_of vs m c.turn >>= λ f. accepted (behind c f)) >>= λ f. accepted (behind d f)) a.comes
+                  ∙ behind_turn d a.value (turns_of types body_of vs m a.value.turn);
             }
 
-        pub again_done : SoFar (i + 1) u one
-        again_done = record {
-          sound = sounds (turn_of types body_of vs (turn_at r old end [] [])) (p h.bodied.tree h.bodied.here [] []);
-          each = λ first was new last. step (turn_of types body_of vs (so.each first was new last).done.turn)
-              (next first was new (so.each first was new last)) first was new (so.each first was new last) refl;
-          long = longer (turn_of types body_of vs (turn_at r old end [] [])) (p h.bodied.tree h.bodied.here [] []);
-        }
-          where
-            sounds : (m : Paper.Outcome Turned) → TurnAs bytes lists node 1 0 m r u old end now one → Sound old end u
-            sounds (accepted a) k = k.came.sound
-            sounds (refused q) k = absurd (accepted_refused (sym goes ∙ k))
+        -- what it has come to, whatever the last snapshots are
+        any : Accepts (λ a to. TurnCame script node (to.from - length vs) a r to old end now one) (turn_of types body_of vs (turn_at r old end [] [])) x
+        any = accepts (p h.bodied.tree h.bodied.here [] []) goes
 
-            longer : (m : Paper.Outcome Turned) → TurnAs bytes lists node 1 0 m r u old end now one → length one ≡ length out
-            longer (accepted a) k = ap length k.came.lays ∙ length_lay now r.at a.words ∙ so.long
-            longer (refused q) k = absurd (accepted_refused (sym goes ∙ k))
+        pub again_done : SoFar (i + 1) x one
+        again_done = record {
+          sound = any.holds.came.sound;
+          each = λ first was new last. step (so.each first was new last);
+        }

@@ -1,5 +1,7 @@
+pub mod Agreed
 pub mod Assigns
 pub mod Branches
+pub mod Broken
 pub mod Completing
 pub mod Counted
 pub mod Counts

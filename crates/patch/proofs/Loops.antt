@@ -1,41 +1,43 @@
 -- Iterations that stay: each visits the body and moves the snapshot behind it; after so many, what the loop comes to is what they came
 -- to and then the iterations that are left.
 -- Assumes nothing.
-use mathlib.Core.Path.{◌≡◌, refl, sym, ap, ap₂, ◌∙◌, subst}
+use mathlib.Core.Path.{◌≡◌, sym, ap, ap₂, ◌∙◌, subst}
 use Prim.Native.Nat.{ℕ, ◌+◌, ◌-◌, ◌≤◌}
 use native.Mathlib.Omega.{arith}
 use mathlib.Core.Bool.{false}
 use mathlib.Core.List.{List, ◌++◌}
 use lib.ListN.{length, length-append}
 use lib.IntN.{ℤ}
+use Rattle.std.specs.Prelude.{Result, Ok, Err}
 use Rattle.numbers.specs.Lay.{lay, lay_append}
-use Rattle.rules.specs.Outcome.{accepted, refused, ◌>>=◌}
+use Rattle.rules.specs.Outcome.{accepted, ◌>>=◌}
 use Rattle.rules.specs.Outcome as Paper
 use Rattle.rules.specs.Value.{Ty}
 use Rattle.rules.specs.Tree.{Statement}
 use Rattle.rules.specs.Table.{types_of}
 use Rattle.rules.specs.Patch.{Visited, Turn, steps_of, moved_all, visit, walk}
-use Rattle.table.specs.Lists.{list_at}
+use Rattle.table.specs.Agrees.{Accepts, accepts, handed_up}
 use Rattle.table.specs.declared.answer.Refusal.{Refusal}
 use Rattle.table.specs.declared.answer.Changes.{Changes}
-use Rattle.table.specs.declared.answer.Outcome.TheVariants.{Accepted, Refused}
+use Rattle.table.specs.declared.script.Script.{Script}
 use Rattle.pieces.specs.Old.{part}
 use Rattle.pieces.specs.Snapshot.{Named, Patched, patched}
 use Rattle.pieces.specs.Laws.Snapshot.{PatchedAt, patched_at, olds_long, moved_long}
 use Rattle.pieces.specs.Entry.{Sound, Came, VisitAs, AdvancedBy}
-use Rattle.patch.specs.Statement.{Visitable, VisitsTo}
-use Rattle.patch.specs.Loop.{Turned, turn_of, turn_at, LastAt, Turnable, TurnCame, last_of, TurnAs, SnapAs, SnapsTo, TurnTo}
+use Rattle.patch.specs.Statement.{listed, VisitsTo}
+use Rattle.patch.specs.Loop.{Turned, turn_of, turn_at, LastAt, Turnable, TurnCame, TurnAs, SnapsTo, TurnTo}
 use Rattle.pieces.specs.declared.entry.Reached.{Reached}
-use Rattle.patch.proofs.Walks.{Gone, gone, handed_up, sound_advanced}
+use Rattle.patch.proofs.Agreed.{agrees_map}
+use Rattle.patch.proofs.Walks.{sound_advanced}
 use Rattle.patch.proofs.Nodes.{for_tree, named_of}
 
-module _ {bytes : List ℕ} {base : ℕ} {lists : List ℕ} {node body : ℕ} {old : List ℤ} {end : ℕ} {s : Reached}
-    (h : Turnable bytes base lists node body old end s) where
+module _ {script : Script} {node body : ℕ} {old : List ℤ} {end : ℕ} {s : Reached}
+    (h : Turnable script node body old end s) where
   abbrev vs : List ℕ
-  vs = list_at lists node
+  vs = listed script node
 
   abbrev types : List Ty
-  types = types_of bytes
+  types = types_of script.checked.table.now
 
   abbrev b : Statement
   b = h.bodied.tree
@@ -43,13 +45,10 @@ module _ {bytes : List ℕ} {base : ℕ} {lists : List ℕ} {node body : ℕ} {o
   abbrev body_of : ℕ → List ℤ → List ℤ → Paper.Outcome Visited
   body_of = visit b (walk types b) false
 
-  abbrev named : Named bytes lists node
+  abbrev named : Named script.checked.table.now script.lists.now.lists node
   named = named_of h.known
 
   -- ---- one iteration
-
-  pub turn_visitable : Visitable bytes base lists body old end s
-  turn_visitable = record { known = h.bodied; sound = h.sound }
 
   abbrev turned : Turn → Visited → Patched → Turned
   turned t v p = record {
@@ -58,7 +57,7 @@ module _ {bytes : List ℕ} {base : ℕ} {lists : List ℕ} {node body : ℕ} {o
     words = v.words ++ p.new;
   }
 
-  module _ (u : Reached) (out one : List ℤ) (p : VisitsTo bytes body false old end s u out one) where
+  module _ {u : Result Reached Refusal} {out one : List ℤ} (p : VisitsTo script body false old end s u out one) where
     abbrev first : Paper.Outcome Visited
     first = body_of s.left s.changes.values (part old s.from end)
 
@@ -66,31 +65,31 @@ module _ {bytes : List ℕ} {base : ℕ} {lists : List ℕ} {node body : ℕ} {o
     visit_came = p b h.bodied.here
 
     -- what is shown of the body's tree is shown of each
-    each : (r : Reached) (two : List ℤ) → ((was new : List ℤ) → TurnAs bytes lists node 1 0 (turn_of types body_of vs (turn_at s old end was new)) s r old end out two)
-        → TurnTo bytes lists node body old end s r out two
-    each r two w = for_tree h.bodied (λ t. (was new : List ℤ) → TurnAs bytes lists node 1 0 (turn_of types (visit t (walk types t) false) vs (turn_at s old end was new)) s r old end out two) w
+    each : (r : Result Reached Refusal) (two : List ℤ)
+        → ((was new : List ℤ) → TurnAs script node 1 0 (turn_of types body_of vs (turn_at s old end was new)) s r old end out two)
+        → TurnTo script node body old end s r out two
+    each r two w = for_tree h.bodied (λ t. (was new : List ℤ) → TurnAs script node 1 0 (turn_of types (visit t (walk types t) false) vs (turn_at s old end was new)) s r old end out two) w
 
-    pub turn_refused : {q : Refusal} → u.outcome ≡ Refused q → (two : List ℤ) → TurnTo bytes lists node body old end s u out two
+    pub turn_refused : {q : Refusal} → u ≡ Err q → (two : List ℤ) → TurnTo script node body old end s (Err q) out two
     unfolding turn_of
-    turn_refused stops two = each u two λ was new.
-        handed_up (λ v. Came v s u old end out one) (λ a. TurnCame bytes lists node (last_of 1 0 u.from (length vs)) a s u old end out two) first
-        (λ v. patched types vs v.changes v.rest >>= λ q. accepted (turned (turn_at s old end was new) v q)) u visit_came (λ v c. c.sound.goes) stops
+    turn_refused {q} stops two = each (Err q) two λ was new.
+        handed_up (λ v. patched types vs v.changes v.rest >>= λ q. accepted (turned (turn_at s old end was new) v q)) visit_came stops
 
-    module _ (goes : u.outcome ≡ Accepted) where
-      went : Gone (λ v. Came v s u old end out one) first
-      went = gone (λ v. Came v s u old end out one) first u visit_came goes
+    module _ {x : Reached} (goes : u ≡ Ok x) where
+      went : Accepts (λ v to. Came v s to old end out one) first x
+      went = accepts visit_came goes
 
       abbrev v : Visited
       v = went.value
 
-      abbrev came : Came v s u old end out one
-      came = went.is
+      abbrev came : Came v s x old end out one
+      came = went.holds
 
-      pub turn_sound : Sound old end u
+      pub turn_sound : Sound old end x
       turn_sound = came.sound
 
       abbrev snaps : Paper.Outcome Patched
-      snaps = patched types vs u.changes.values (part old u.from end)
+      snaps = patched types vs x.changes.values (part old x.from end)
 
       turn_is : (was new : List ℤ) → turn_of types body_of vs (turn_at s old end was new) ≡ (snaps >>= λ q. accepted (turned (turn_at s old end was new) v q))
       unfolding turn_of
@@ -100,18 +99,18 @@ module _ {bytes : List ℕ} {base : ℕ} {lists : List ℕ} {node body : ℕ} {o
           ∙ ap₂ {C = Paper.Outcome Turned} (λ (cs ws : List ℤ). patched types vs cs ws >>= λ q. accepted (turned (turn_at s old end was new) v q))
           (sym came.changes) came.rest
 
-      closes : (r : Reached) (two : List ℤ) (q : Patched) → snaps ≡ accepted q → AdvancedBy (length vs) u r → two ≡ lay one u.at q.new
+      closes : (r : Reached) (two : List ℤ) (q : Patched) → snaps ≡ accepted q → AdvancedBy (length vs) x r → two ≡ lay one x.at q.new
           → (was new : List ℤ)
-          → TurnCame bytes lists node (r.from - length vs) (turned (turn_at s old end was new) v q) s r old end out two
+          → TurnCame script node (r.from - length vs) (turned (turn_at s old end was new) v q) s r old end out two
       closes r two q is step laid was new =
           let w = length vs in
-          let a : PatchedAt bytes lists node named old u.from end came.sound.inside u.changes.values q
-          = patched_at bytes lists node named old u.from end came.sound.inside u.changes.values q is in
+          let a : PatchedAt script.checked.table.now script.lists.now.lists node named old x.from end came.sound.inside x.changes.values q
+          = patched_at script.checked.table.now script.lists.now.lists node named old x.from end came.sound.inside x.changes.values q is in
           let width : length q.new ≡ w
-          = moved_long types vs q.old u.changes.values q.new (ap length a.was ∙ olds_long bytes lists node old u.from a.standing)
+          = moved_long types vs q.old x.changes.values q.new (ap length a.was ∙ olds_long script.checked.table.now script.lists.now.lists node old x.from a.standing)
           a.moved in
-          let place : u.from + w ≡ r.from = sym step.from in
-          let here : u.from ≡ r.from - w = omega (arith, step.from) in
+          let place : x.from + w ≡ r.from = sym step.from in
+          let here : x.from ≡ r.from - w = omega (arith, step.from) in
           let leaves : r.left + steps_of v.counts ≡ s.left = omega (arith, came.leaves, step.left) in
           let left : s.left - steps_of v.counts ≡ r.left = omega (arith, came.leaves, step.left) in
           let walks : r.walked ≡ s.walked + v.counts.walked = omega (arith, came.walks, step.walked) in
@@ -132,18 +131,13 @@ module _ {bytes : List ℕ} {base : ℕ} {lists : List ℕ} {node body : ℕ} {o
                   ∙ sym (lay_append out s.at v.words q.new);
             };
             left = left;
-            lastly = subst (λ (i : ℕ). LastAt bytes lists node old i (turned (turn_at s old end was new) v q).turn) here (record {
+            lastly = subst (λ (i : ℕ). LastAt script node old i (turned (turn_at s old end was new) v q).turn) here (record {
               standing = a.standing;
               was = a.was;
               moved = ap (moved_all types vs q.old) (sym came.changes) ∙ a.moved;
             });
           }
 
-      pub turn_answer : (r : Reached) (two : List ℤ) → SnapsTo bytes lists node old end u r one two → TurnTo bytes lists node body old end s r out two
-      turn_answer r two g = each r two λ was new. subst (λ (m : Paper.Outcome Turned). TurnAs bytes lists node 1 0 m s r old end out two)
-          (sym (turn_is was new)) (ended snaps refl g was new)
-        where
-          ended : (m : Paper.Outcome Patched) → snaps ≡ m → SnapAs (length vs) m u r one two → (was new : List ℤ)
-              → TurnAs bytes lists node 1 0 (m >>= λ q. accepted (turned (turn_at s old end was new) v q)) s r old end out two
-          ended (accepted q) is k was new = closes r two q is k.0 k.1 was new
-          ended (refused q) is k was new = k
+      pub turn_answer : (r : Result Reached Refusal) (two : List ℤ) → SnapsTo script.checked.table.now script.lists.now.lists node old end x r one two → TurnTo script node body old end s r out two
+      turn_answer r two g = each r two λ was new. subst (λ (m : Paper.Outcome Turned). TurnAs script node 1 0 m s r old end out two)
+          (sym (turn_is was new)) (agrees_map (turned (turn_at s old end was new) v) (λ q is y k. closes y two q is k.0 k.1 was new) g)

@@ -3,30 +3,34 @@
 use mathlib.Core.Path.{◌≡◌, refl, sym, ap, ap₂, ◌∙◌, subst}
 use Prim.Native.Nat.{ℕ, zero, suc, ◌-◌, ◌<◌}
 use native.Mathlib.Omega.{arith}
+use mathlib.Core.Option.{some}
 use mathlib.Core.Bool.{Bool, true, false, false≢true}
 use mathlib.Core.List.{List, [], ◌∷◌, ◌++◌}
 use lib.Dec.{leb}
 use lib.IntN.{ℤ, pos, nat_abs}
 use lib.Signed.{le_z}
+use Rattle.std.specs.Prelude.{Result, Ok, Err}
 use Rattle.numbers.specs.Signed.{eq_z, between}
-use Rattle.rules.specs.Outcome.{accepted, refused, ◌>>=◌, choose, broken, fuel_spent}
+use Rattle.rules.specs.Outcome.{accepted, ◌>>=◌, choose, broken, fuel_spent}
 use Rattle.rules.specs.Outcome as Paper
 use Rattle.rules.specs.Value.{Ty, unchanged}
 use Rattle.rules.specs.Tree.{Statement, node_of, mentions}
-use Rattle.rules.specs.Table.{types_of}
+use Rattle.rules.specs.Table.{Node as Bytes, types_of, statement}
 use Rattle.rules.specs.Run.{opening, most_steps}
 use Rattle.rules.specs.Patch.{Entry, Visited, Walked, Walk, both, steps_of, cut, ends, meet, skipped, paid, visit, walk}
 use Rattle.rules.proofs.Laws.Outcome.{Holds, value, vacant, holds_bind, holds_need, holds_any, holds_map, holds_at}
 use Rattle.rules.proofs.Laws.Parts.{node_at, part_at}
 use Rattle.rules.proofs.Laws.Size.{Small}
+use Rattle.table.specs.Agrees.{Accepts, accepts, handed_up}
 use Rattle.table.specs.declared.answer.Refusal.{Refusal}
-use Rattle.table.specs.declared.answer.Outcome.TheVariants.{Accepted, Refused}
+use Rattle.table.specs.declared.script.Script.{Script}
 use Rattle.run.specs.Laws.Sequences.{AsSequence, as_sequence, both_small}
 use Rattle.pieces.specs.Old.{part}
-use Rattle.pieces.specs.Entry.{Came, Ends, VisitAs, whole, WalkAs}
+use Rattle.pieces.specs.Entry.{Came, VisitAs, whole, WalkAs}
 use Rattle.patch.specs.Statement.{Visitable, VisitsTo, Enterable, WalksTo}
 use Rattle.pieces.specs.declared.entry.Reached.{Reached}
-use Rattle.patch.proofs.Walks.{Gone, gone, handed_up, ends_map, came_then}
+use Rattle.patch.proofs.Agreed.{agrees_map, agrees_then}
+use Rattle.patch.proofs.Walks.{came_then}
 use Rattle.patch.proofs.Nodes.{for_tree, as_run, child}
 
 -- ---- a last part leaves nothing behind
@@ -70,12 +74,6 @@ visit_all t own fuel changes ws = holds_bind (meet (node_of t) true ws) _ (meet_
 pub visit_last : (t : Statement) (own : Walk) (fuel : ℕ) (changes ws : List ℤ) (v : Visited) → visit t own true fuel changes ws ≡ accepted v → v.rest ≡ []
 visit_last t own fuel changes ws v e = holds_at e (visit_all t own fuel changes ws)
 
--- what a visit of a last part comes to, with nothing behind it
-pub with_rest : (P : Visited → Type 0) (m : Paper.Outcome Visited) (r : Reached) → Ends P m r → ((v : Visited) → m ≡ accepted v → v.rest ≡ [])
-    → Ends (λ v. P v × (v.rest ≡ [])) m r
-with_rest P (accepted v) r h f = (h, f v refl)
-with_rest P (refused q) r h f = h
-
 -- two walks one behind the other are the whole of their entry where nothing is left
 pub came_whole : {a b : Visited} {s u r : Reached} {old : List ℤ} {end : ℕ} {out one two : List ℤ} → Came a s u old end out one → Came b u r old end one two
     → b.rest ≡ []
@@ -95,15 +93,15 @@ came_whole {s} {r} {old} {end} {out} {two} c d none =
 
 -- ---- sequence
 
-module _ {bytes : List ℕ} {base : ℕ} {lists : List ℕ} {node : ℕ} {old : List ℤ} {end : ℕ} {s : Reached} (h : Enterable bytes base lists node old end s 18) where
-  abbrev its : AsSequence bytes node h.known.tree
+module _ {script : Script} {node : ℕ} {old : List ℤ} {end : ℕ} {s : Reached} (h : Enterable script node old end s 18) where
+  abbrev its : AsSequence script.checked.table.now node h.known.tree
   its = as_sequence (as_run h.known h.kinded)
 
   small_both : Small its.s × Small its.t
   small_both = both_small (as_run h.known h.kinded)
 
   abbrev types : List Ty
-  types = types_of bytes
+  types = types_of script.checked.table.now
 
   abbrev one_visit : Paper.Outcome Visited
   one_visit = visit its.s (walk types its.s) false s.left s.changes.values (part old s.from end)
@@ -115,54 +113,60 @@ module _ {bytes : List ℕ} {base : ℕ} {lists : List ℕ} {node : ℕ} {old : 
   joined a b = record { changes = b.changes; counts = both a.counts b.counts; words = a.words ++ b.words }
 
   -- what is shown of the sequence is shown of each tree of the node
-  each : (r : Reached) (out after : List ℤ) → WalkAs (one_visit >>= λ a. two_visit a >>= λ b. accepted (joined a b)) s r old end out after
-      → WalksTo bytes node old end s r out after
+  each : (r : Result Reached Refusal) (out after : List ℤ) → WalkAs (one_visit >>= λ a. two_visit a >>= λ b. accepted (joined a b)) s r old end out after
+      → WalksTo script node old end s r out after
   unfolding walk
   each r out after w = for_tree h.known (λ t. WalkAs (walk types t s.left s.changes.values (part old s.from end)) s r old end out after)
       (subst (λ (t : Statement). WalkAs (walk types t s.left s.changes.values (part old s.from end)) s r old end out after) (sym its.is) w)
 
-  pub first_visitable : (i : ℕ) → i ≡ (node_at bytes node).a → Visitable bytes base lists i old end s
-  first_visitable i e = subst (λ (j : ℕ). Visitable bytes base lists j old end s) (sym e)
-      (record { known = child h.known (node_at bytes node).a its.s its.first.1 small_both.0; sound = h.sound })
+  -- the node as the code read it
+  module _ {top : Bytes} (read : top ≡ node_at script.checked.table.now node) where
+    first_is : top.a ≡ (node_at script.checked.table.now node).a
+    first_is = ap (λ (n : Bytes). n.a) read
 
-  pub first_below : (i : ℕ) → i ≡ (node_at bytes node).a → i < node
-  first_below i e = omega (arith, its.first.0)
+    second_is : top.b ≡ (node_at script.checked.table.now node).b
+    second_is = ap (λ (n : Bytes). n.b) read
 
-  pub second_below : (i : ℕ) → i ≡ (node_at bytes node).b → i < node
-  second_below i e = omega (arith, its.second.0)
+    first_here : part_at script.checked.table.now top.a ≡ some (statement its.s)
+    first_here = ap (part_at script.checked.table.now) first_is ∙ its.first.1
 
-  module _ (i : ℕ) (is : i ≡ (node_at bytes node).a) (u : Reached) (out one : List ℤ) (p : VisitsTo bytes i false old end s u out one) where
-    first : VisitAs one_visit s u old end out one
-    first = p its.s (ap (part_at bytes) is ∙ its.first.1)
+    second_here : part_at script.checked.table.now top.b ≡ some (statement its.t)
+    second_here = ap (part_at script.checked.table.now) second_is ∙ its.second.1
 
-    pub first_refused : {q : Refusal} → u.outcome ≡ Refused q → (after : List ℤ) → WalksTo bytes node old end s u out after
-    first_refused stops after = each u out after (handed_up (λ v. Came v s u old end out one) (λ w. Came (whole w) s u old end out after) one_visit
-        (λ a. two_visit a >>= λ b. accepted (joined a b)) u first (λ v c. c.sound.goes) stops)
+    pub first_below : top.a < node
+    first_below = omega (arith, first_is, its.first.0)
 
-    module _ (goes : u.outcome ≡ Accepted) where
-      went : Gone (λ v. Came v s u old end out one) one_visit
-      went = gone (λ v. Came v s u old end out one) one_visit u first goes
+    pub second_below : top.b < node
+    second_below = omega (arith, second_is, its.second.0)
 
-      pub second_visitable : (j : ℕ) → j ≡ (node_at bytes node).b → Visitable bytes base lists j old end u
-      second_visitable j e = subst (λ (j : ℕ). Visitable bytes base lists j old end u) (sym e)
-          (record { known = child h.known (node_at bytes node).b its.t its.second.1 small_both.1; sound = went.is.sound })
+    pub first_visitable : Visitable script top.a old end s
+    first_visitable = record { known = child h.known top.a its.s first_here small_both.0; sound = h.sound }
 
-      pub sequence_answer : (j : ℕ) → j ≡ (node_at bytes node).b → (r : Reached) (two : List ℤ) → VisitsTo bytes j true old end u r one two
-          → WalksTo bytes node old end s r out two
-      sequence_answer j e r two g =
-          let a = went.value in
-          let c = went.is in
-          let rest : s.left - steps_of a.counts ≡ u.left = omega (arith, c.leaves) in
-          let same : two_visit a ≡ visit its.t (walk types its.t) true u.left u.changes.values (part old u.from end)
-          = ap₂ {C = Paper.Outcome Visited} (λ (n : ℕ) (cs : List ℤ). visit its.t (walk types its.t) true n cs a.rest) rest (sym c.changes)
-          ∙ ap (visit its.t (walk types its.t) true u.left u.changes.values) c.rest in
-          let second : VisitAs (two_visit a) u r old end one two
-          = subst (λ (m : Paper.Outcome Visited). VisitAs m u r old end one two) (sym same) (g its.t (ap (part_at bytes) e ∙ its.second.1)) in
-          each r out two (rw went.comes (behind a c r two second))
-        where
-          behind : (a : Visited) → Came a s u old end out one → (r : Reached) (two : List ℤ) → VisitAs (two_visit a) u r old end one two
-              → WalkAs (two_visit a >>= λ b. accepted (joined a b)) s r old end out two
-          behind a c r two second = ends_map (λ v. (Came v u r old end one two) × (v.rest ≡ [])) (λ w. Came (whole w) s r old end out two) (two_visit a)
-              (joined a) r
-              (with_rest (λ v. Came v u r old end one two) (two_visit a) r second (visit_last its.t (walk types its.t) (s.left - steps_of a.counts) a.changes a.rest))
-              λ v d. came_whole c d.0 d.1
+    module _ {u : Result Reached Refusal} {out one : List ℤ} (p : VisitsTo script top.a false old end s u out one) where
+      first : VisitAs one_visit s u old end out one
+      first = p its.s first_here
+
+      pub first_refused : {q : Refusal} → u ≡ Err q → (after : List ℤ) → WalksTo script node old end s (Err q) out after
+      first_refused {q} stops after = each (Err q) out after (handed_up (λ a. two_visit a >>= λ b. accepted (joined a b)) first stops)
+
+      module _ {x : Reached} (goes : u ≡ Ok x) where
+        went : Accepts (λ v to. Came v s to old end out one) one_visit x
+        went = accepts first goes
+
+        pub second_visitable : Visitable script top.b old end x
+        second_visitable = record { known = child h.known top.b its.t second_here small_both.1; sound = went.holds.sound }
+
+        pub sequence_answer : (r : Result Reached Refusal) (two : List ℤ) → VisitsTo script top.b true old end x r one two
+            → WalksTo script node old end s r out two
+        sequence_answer r two g =
+            let a = went.value in
+            let c = went.holds in
+            let rest : s.left - steps_of a.counts ≡ x.left = omega (arith, c.leaves) in
+            let same : two_visit a ≡ visit its.t (walk types its.t) true x.left x.changes.values (part old x.from end)
+            = ap₂ {C = Paper.Outcome Visited} (λ (n : ℕ) (cs : List ℤ). visit its.t (walk types its.t) true n cs a.rest) rest (sym c.changes)
+            ∙ ap (visit its.t (walk types its.t) true x.left x.changes.values) c.rest in
+            let second : VisitAs (two_visit a) x r old end one two
+            = subst (λ (m : Paper.Outcome Visited). VisitAs m x r old end one two) (sym same) (g its.t second_here) in
+            each r out two (agrees_then (λ b. two_visit b >>= λ d. accepted (joined b d)) went.comes
+            (agrees_map (joined a) (λ b comes y d. came_whole c d
+            (visit_last its.t (walk types its.t) (s.left - steps_of a.counts) a.changes a.rest b comes)) second))

@@ -3,25 +3,28 @@
 use mathlib.Core.Path.{◌≡◌, refl, sym, ap, ap₂, ◌∙◌, subst}
 use Prim.Native.Nat.{ℕ, ◌+◌, ◌-◌, ◌*◌, ◌≤◌, ◌<◌}
 use native.Mathlib.Omega.{arith}
-use mathlib.Core.Bool.{Bool, true, false, true≢false}
+use mathlib.Core.Bool.{Bool, true, false}
 use mathlib.Core.List.{List, []}
 use lib.ListN.{length, drop}
 use lib.IntN.{ℤ}
 use borrow.Author.Tests.{le-leb, lt-leb}
+use Rattle.patch.specs.Statement.{listed}
+use Rattle.std.specs.Prelude.{Result, Ok, Err}
 use Rattle.numbers.specs.Lay.{lay}
 use Rattle.rules.specs.Outcome.{accepted, refused, ◌>>=◌, need, broken}
 use Rattle.rules.specs.Outcome as Paper
-use Rattle.rules.specs.Value.{Ty, zeros, most_variables, put, minus_all}
+use Rattle.rules.specs.Value.{Ty, put, minus_all}
 use Rattle.rules.specs.Table.{types_of}
 use Rattle.rules.specs.Patch.{Walked, Snapshot, no_steps, all_fresh, read_snapshot, last_snapshot, shrunk}
 use Rattle.rules.proofs.Laws.Size.{weight}
-use Rattle.table.specs.Lists.{list_at}
+use Rattle.table.specs.Agrees.{both, neither}
 use Rattle.table.specs.Paper.{refusal_for}
+use Rattle.table.specs.declared.answer.Refusal.{Refusal}
 use Rattle.table.specs.declared.answer.Store.{Store}
-use Rattle.table.specs.declared.answer.Outcome.TheVariants.{Refused}
+use Rattle.table.specs.declared.script.Script.{Script}
 use Rattle.run.specs.declared.statement.Ran.{Ran}
 use Rattle.pieces.specs.Old.{part, Inside}
-use Rattle.pieces.specs.Snapshot.{Standing, olds, plus_each}
+use Rattle.pieces.specs.Snapshot.{Standing, started_from}
 use Rattle.pieces.specs.Unbroken.{Unbroken}
 use Rattle.pieces.specs.Laws.Old.{part_long, part_drop}
 use Rattle.pieces.specs.Laws.Snapshot.{ReadAt, read_at}
@@ -29,27 +32,34 @@ use Rattle.pieces.specs.Entry.{Came, WalkAs, whole}
 use Rattle.patch.specs.Fresh.{FreshAs}
 use Rattle.patch.specs.Loop.{turn_at, LastAt, Shrinkable, ShrinksTo}
 use Rattle.pieces.specs.declared.entry.Reached.{Reached}
+use Rattle.patch.proofs.Broken.{Right, broken_of, right_of}
 use Rattle.patch.proofs.Nodes.{named_of}
 use Rattle.patch.proofs.Fresh.{from_last, store_fine, store_back, fresh_came}
 
-module _ {bytes lists : List ℕ} {node last : ℕ} {old : List ℤ} {end : ℕ} {s : Reached} (h : Shrinkable bytes lists node last old end s) where
+module _ {script : Script} {node last : ℕ} {old : List ℤ} {end : ℕ} {s : Reached} (h : Shrinkable script node last old end s) where
   abbrev vs : List ℕ
-  vs = list_at lists node
+  vs = listed script node
 
   abbrev types : List Ty
-  types = types_of bytes
+  types = types_of script.checked.table.now
 
   abbrev closed : List ℤ → Snapshot → Walked
   closed new t = record { changes = put vs (minus_all types vs new t.values) s.changes.values; counts = no_steps; words = [] }
 
-  shrunk_by : (m : Paper.Outcome Snapshot) → last_snapshot types vs (part old s.from end) ≡ m → (r : Reached)
-      → ((out was new : List ℤ) → LastAt bytes lists node old last (turn_at s old end was new) → WalkAs (m >>= λ t. accepted (closed new t)) s r old end out out)
-      → ShrinksTo bytes lists node last old end s r
+  shrunk_by : (m : Paper.Outcome Snapshot) → last_snapshot types vs (part old s.from end) ≡ m → {r : Result Reached Refusal}
+      → ((out was new : List ℤ) → LastAt script node old last (turn_at s old end was new) → WalkAs (m >>= λ t. accepted (closed new t)) s r old end out out)
+      → ShrinksTo script node last old end s r
   unfolding shrunk
-  shrunk_by m is r f out was new l = subst (λ (o : Paper.Outcome Snapshot). WalkAs (o >>= λ t. accepted (closed new t)) s r old end out out) (sym is)
+  shrunk_by m is {r} f out was new l = subst (λ (o : Paper.Outcome Snapshot). WalkAs (o >>= λ t. accepted (closed new t)) s r old end out out) (sym is)
       (f out was new l)
 
-  module _ {w : ℕ} (wide : w ≡ length vs) where
+  module _ {ws : List ℕ} (is : ws ≡ vs) where
+    abbrev w : ℕ
+    w = length ws
+
+    wide : w ≡ length vs
+    wide = ap length is
+
     long : length (part old s.from end) ≡ end - s.from
     long = part_long old s.from end h.sound.inside.ends
 
@@ -61,8 +71,8 @@ module _ {bytes lists : List ℕ} {node last : ℕ} {old : List ℤ} {end : ℕ}
         (lt-leb (length vs) (length (part old s.from end)) few)
 
     -- no room for the last snapshot
-    pub shrunk_short : end - s.from < w → (r : Reached) → r.outcome ≡ Refused (refusal_for broken) → ShrinksTo bytes lists node last old end s r
-    shrunk_short less r stops = shrunk_by (refused broken) (none less) r (λ out was new l. stops)
+    pub shrunk_short : end - s.from < w → ShrinksTo script node last old end s (Err (refusal_for broken))
+    shrunk_short less = shrunk_by (refused broken) (none less) λ out was new l. neither refl
 
     module _ (room : w ≤ end - s.from) where
       pub tail_inside : Inside old (end - w) end
@@ -84,48 +94,37 @@ module _ {bytes lists : List ℕ} {node last : ℕ} {old : List ℤ} {end : ℕ}
           (le-leb (length vs) (length (part old s.from end)) most)
           ∙ ap (read_snapshot types vs) (part_drop old s.from end count within ∙ ap (λ (p : ℕ). part old p end) place)
 
-      module _ (fits : Bool) (f : Unbroken reads fits) where
+      module _ {fits : Bool} (f : Unbroken reads fits) where
         -- it is none
-        pub shrunk_broken : fits ≡ false → (r : Reached) → r.outcome ≡ Refused (refusal_for broken) → ShrinksTo bytes lists node last old end s r
-        shrunk_broken wrong r stops = shrunk_by reads tailed r (λ out was new l. of reads f out new)
-          where
-            of : (m : Paper.Outcome Snapshot) → Unbroken m fits → (out new : List ℤ) → WalkAs (m >>= λ t. accepted (closed new t)) s r old end out out
-            of (accepted t) g out new = absurd (true≢false (sym g ∙ wrong))
-            of (refused q) g out new = stops ∙ ap (λ (p : Paper.Refusal). Refused (refusal_for p)) (sym g.1)
+        pub shrunk_broken : fits ≡ false → ShrinksTo script node last old end s (Err (refusal_for broken))
+        shrunk_broken wrong = shrunk_by (refused broken) (tailed ∙ broken_of reads f wrong) λ out was new l. neither refl
 
         module _ (right : fits ≡ true) where
-          record Tail : Type 0 where
-            snap : Snapshot
-            comes : reads ≡ accepted snap
-            stands : ReadAt bytes lists node (named_of h.known) old (end - w) end tail_inside snap
+          tail : Right (λ t. reads ≡ accepted t) reads
+          tail = right_of reads f right
 
-          tail_at : Tail
-          tail_at = of reads refl f
-            where
-              of : (m : Paper.Outcome Snapshot) → reads ≡ m → Unbroken m fits → Tail
-              of (accepted t) e g = record { snap = t; comes = e; stands = read_at bytes lists node (named_of h.known) old (end - w) end tail_inside t e }
-              of (refused q) e g = absurd (true≢false (sym right ∙ g.0))
+          stands : ReadAt script.checked.table.now script.lists.now.lists node (named_of h.known) old (end - w) end tail_inside tail.value
+          stands = read_at script.checked.table.now script.lists.now.lists node (named_of h.known) old (end - w) end tail_inside tail.value tail.comes
 
-          pub tail_standing : Standing bytes lists node old (end - w)
-          tail_standing = tail_at.stands.standing
+          pub tail_standing : Standing script.checked.table.now script.lists.now.lists node old (end - w)
+          tail_standing = stands.standing
 
-          module _ {store : Store}
-              (is : store.values ≡ put vs (plus_each types vs (olds old last vs) s.changes.values) (zeros most_variables)) where
+          module _ {store : Store} (begins : store.values ≡ started_from script.checked.table.now script.lists.now.lists node old last s.changes.values) where
             -- the walk as if it had run fresh, without a step
             abbrev pub unmoved : Ran
-            unmoved = record { outcome = s.outcome; store = store; left = s.left; at = s.at }
+            unmoved = record { store = store; left = s.left; at = s.at }
 
-            pub shrunk_answer : (r : Reached) → FreshAs bytes lists node old (end - w) end unmoved s r → ShrinksTo bytes lists node last old end s r
+            pub shrunk_answer : {r : Reached} → FreshAs script node old (end - w) end unmoved s r → ShrinksTo script node last old end s (Ok r)
             unfolding lay no_steps all_fresh
-            shrunk_answer r fresh = shrunk_by (accepted tail_at.snap) (tailed ∙ tail_at.comes) r came
+            shrunk_answer {r} fresh = shrunk_by (accepted tail.value) (tailed ∙ tail.comes) λ out was new l. both (came out was new l)
               where
-                came : (out was new : List ℤ) → LastAt bytes lists node old last (turn_at s old end was new)
-                    → Came (whole (closed new tail_at.snap)) s r old end out out
+                came : (out was new : List ℤ) → LastAt script node old last (turn_at s old end was new)
+                    → Came (whole (closed new tail.value)) s r old end out out
                 came out was new l =
-                    let begun = from_last l is in
+                    let begun = from_last l begins in
                     let left : s.left + 0 ≡ s.left = omega arith in
                     let ends : s.at ≡ s.at + 0 = omega arith in
                     let short : s.from + 0 ≤ weight * 0 + end = omega (arith, h.sound.inside.ordered) in
                     subst (λ (cs : List ℤ). Came (whole (record { changes = put vs cs s.changes.values; counts = no_steps; words = [] })) s r old end out out)
-                    (ap₂ {C = List ℤ} (minus_all types vs) (store_back begun h.known) (sym tail_at.stands.values))
+                    (ap₂ {C = List ℤ} (minus_all types vs) (store_back begun h.known) (sym stands.values))
                     (fresh_came h.sound tail_standing fresh (store_fine begun).good 0 [] left ends short refl)

@@ -1,50 +1,21 @@
--- Walks put together: a walk that is stopped stays stopped, one that goes on is sound at its next place, and one walk behind another
--- is a walk with the counts and words of both.
+-- Walks put together: one that goes on is sound at its next place, and one walk behind another is a walk with the counts and words of
+-- both.
 -- Assumes nothing.
-use mathlib.Core.Path.{◌≡◌, refl, sym, ap, ap₂, ◌∙◌, subst}
+use mathlib.Core.Path.{◌≡◌, sym, ap, ap₂, ◌∙◌, subst}
 use Prim.Native.Nat.{ℕ, ◌+◌, ◌*◌, ◌≤◌}
 use native.Mathlib.Omega.{arith}
 use mathlib.Core.List.{List, ◌++◌}
 use lib.ListN.{length, length-append}
 use lib.IntN.{ℤ}
 use Rattle.numbers.specs.Lay.{lay, lay_append}
-use Rattle.rules.specs.Outcome.{accepted, refused, ◌>>=◌}
-use Rattle.rules.specs.Outcome as Paper
 use Rattle.rules.specs.Patch.{Visited, steps_of, both}
 use Rattle.rules.proofs.Laws.Size.{weight}
-use Rattle.table.specs.declared.answer.Refusal.{Refusal}
 use Rattle.table.specs.declared.answer.Changes.{Changes}
-use Rattle.table.specs.declared.answer.Outcome.TheVariants.{Accepted, Refused}
 use Rattle.run.specs.Code.{farthest}
 use Rattle.pieces.specs.Change.{AllNear}
 use Rattle.pieces.specs.Old.{Inside}
-use Rattle.pieces.specs.Entry.{Sound, Came, Ends, Stepped, AdvancedBy}
+use Rattle.pieces.specs.Entry.{Sound, Came, Stepped, AdvancedBy}
 use Rattle.pieces.specs.declared.entry.Reached.{Reached}
-use Rattle.run.specs.Laws.Statements.{accepted_refused}
-
--- ---- how a walk ends
-
--- the value that a walk that goes on has come to
-pub record Gone {A : Type 0} (P : A → Type 0) (m : Paper.Outcome A) : Type 0 where
-  pub value : A
-  pub comes : m ≡ accepted value
-  pub is : P value
-
-pub gone : {A : Type 0} (P : A → Type 0) (m : Paper.Outcome A) (r : Reached) → Ends P m r → r.outcome ≡ Accepted → Gone P m
-gone P (accepted a) r h e = record { value = a; comes = refl; is = h }
-gone P (refused q) r h e = absurd (accepted_refused (sym e ∙ h))
-
--- a refusal is handed up unchanged
-pub handed_up : {A B : Type 0} (P : A → Type 0) (Q : B → Type 0) (m : Paper.Outcome A) (next : A → Paper.Outcome B) (r : Reached) {q : Refusal}
-    → Ends P m r → ((a : A) → P a → r.outcome ≡ Accepted) → r.outcome ≡ Refused q → Ends Q (m >>= next) r
-handed_up P Q (accepted a) next r h goes e = absurd (accepted_refused (sym (goes a h) ∙ e))
-handed_up P Q (refused p) next r h goes e = h
-
--- what is made of the last value
-pub ends_map : {A B : Type 0} (P : A → Type 0) (Q : B → Type 0) (m : Paper.Outcome A) (f : A → B) (r : Reached)
-    → Ends P m r → ((a : A) → P a → Q (f a)) → Ends Q (m >>= λ a. accepted (f a)) r
-ends_map P Q (accepted a) f r h step = step a h
-ends_map P Q (refused q) f r h step = h
 
 -- ---- where it stands
 
@@ -54,7 +25,6 @@ module _ {old : List ℤ} {end : ℕ} {s : Reached} (h : Sound old end s) where
   sound_before {stop} low high =
       let ends : stop ≤ length old = omega (arith, h.inside.ends) in
       record {
-        goes = h.goes;
         long = h.long;
         near = h.near;
         inside = record { ordered = low; ends = ends };
@@ -63,10 +33,9 @@ module _ {old : List ℤ} {end : ℕ} {s : Reached} (h : Sound old end s) where
       }
 
   -- the same changes at another place
-  sound_at : {r : Reached} → r.outcome ≡ s.outcome → r.changes ≡ s.changes → Inside old r.from end
+  sound_at : {r : Reached} → r.changes ≡ s.changes → Inside old r.from end
       → r.at + weight * r.left + length old + 60_000_000 ≤ farthest + r.from → r.walked + r.reused + r.left ≤ 1_000_000 → Sound old end r
-  sound_at a b inside place few = record {
-    goes = a ∙ h.goes;
+  sound_at b inside place few = record {
     long = ap (λ (c : Changes). length c.values) b ∙ h.long;
     near = subst (λ (c : Changes). AllNear c.values) (sym b) h.near;
     inside = inside;
@@ -79,14 +48,14 @@ module _ {old : List ℤ} {end : ℕ} {s : Reached} (h : Sound old end s) where
       let ordered : r.from ≤ end = omega (arith, a.from) in
       let place : r.at + weight * r.left + length old + 60_000_000 ≤ farthest + r.from = omega (arith, h.place, a.left, a.from, a.at) in
       let few : r.walked + r.reused + r.left ≤ 1_000_000 = omega (arith, h.few, a.left, a.walked, a.reused) in
-      sound_at a.outcome a.changes (record { ordered = ordered; ends = h.inside.ends }) place few
+      sound_at a.changes (record { ordered = ordered; ends = h.inside.ends }) place few
 
   pub sound_stepped : {r : Reached} → Stepped s r → s.from + 3 ≤ end → Sound old end r
   sound_stepped {r} a within =
       let ordered : r.from ≤ end = omega (arith, a.from) in
       let place : r.at + weight * r.left + length old + 60_000_000 ≤ farthest + r.from = omega (arith, h.place, a.left, a.from, a.at) in
       let few : r.walked + r.reused + r.left ≤ 1_000_000 = omega (arith, h.few, a.left, a.walked, a.reused) in
-      sound_at a.outcome a.changes (record { ordered = ordered; ends = h.inside.ends }) place few
+      sound_at a.changes (record { ordered = ordered; ends = h.inside.ends }) place few
 
 -- ---- one walk behind another
 

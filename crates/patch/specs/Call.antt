@@ -1,6 +1,6 @@
 -- What the contracts of the public patch and of its steps say, by the definition of the whole call.
 -- Assumes nothing.
-use Rattle.std.specs.Prelude.{◌≡◌, Bool, true, ◌&&◌, List, ℕ, ◌+◌, ◌*◌, ◌≤◌, length, take, ℤ, nat_abs}
+use Rattle.std.specs.Prelude.{◌≡◌, Bool, true, ◌&&◌, List, ℕ, ◌+◌, ◌*◌, ◌≤◌, length, take, ℤ, nat_abs, Result}
 use Rattle.numbers.specs.Lay.{lay}
 use Rattle.rules.specs.Outcome.{accepted, ◌>>=◌, need, change_wrong}
 use Rattle.rules.specs.Outcome as Paper
@@ -8,24 +8,33 @@ use Rattle.rules.specs.Value.{Ty, in_type, plus, padded, fit}
 use Rattle.rules.specs.Table.{variables, types_of, Program, check}
 use Rattle.rules.specs.Run.{record_of}
 use Rattle.rules.specs.Patch.{Visited, steps_of, visit, walk}
-use Rattle.rules.specs.Call.{Finished, Header, header, length_of, limit_of, is_change, legal, finish_patch, within}
+use Rattle.rules.specs.Call as Rules
+use Rattle.rules.specs.Call.{Finished, header, length_of, limit_of, is_change, legal, finish_patch, within}
 use Rattle.rules.proofs.Laws.Header.{Sized}
-use Rattle.table.specs.Paper.{number_of}
+use Rattle.table.specs.Agrees.{Agrees}
 use Rattle.table.specs.declared.answer.Answer.{Answer}
-use Rattle.table.specs.declared.answer.Outcome.{Outcome}
-use Rattle.table.specs.declared.answer.Outcome.TheVariants.{Accepted}
+use Rattle.table.specs.declared.answer.Refusal.{Refusal}
 use Rattle.table.specs.declared.answer.Store.{Store}
 use Rattle.run.specs.Call.{Answers}
 use Rattle.run.specs.Code.{farthest}
 use Rattle.pieces.specs.Change.{AllNear}
 use Rattle.pieces.specs.Entry.{Came, VisitAs}
 use Rattle.pieces.specs.declared.entry.Reached.{Reached}
+use Rattle.patch.specs.declared.header.Header.{Header}
 
 -- ---- the header and the changes
 
 -- an input may take this change
 abbrev pub legal_change : Ty → ℤ → ℤ → Bool
 legal_change t z c = is_change t c && in_type t (plus t z c)
+
+-- the record's length and the limit, as the code reads them
+pub record HeaderAs (old : List ℤ) (h : Rules.Header) (r : Header) : Type 0 where
+  pub length : r.length ≡ nat_abs (length_of old)
+  pub limit : r.limit ≡ h.limit
+
+abbrev pub HeaderTo : List ℕ → List ℤ → Result Header Refusal → Type 0
+HeaderTo bytes old r = Agrees (HeaderAs old) (header (types_of bytes) old) r
 
 -- one value for each variable, and the changes are near
 pub record Sums (bytes : List ℕ) (words changes : List ℤ) : Type 0 where
@@ -39,7 +48,7 @@ pub record Sums (bytes : List ℕ) (words changes : List ℤ) : Type 0 where
 -- what a patch starts from
 pub record Ready : Type 0 where
   pub program : Program
-  pub header : Header
+  pub header : Rules.Header
 
 -- the table's tests, the header's, then those of the changes
 unfoldable pub tests : List ℕ → List ℤ → List ℤ → Paper.Outcome Ready
@@ -49,20 +58,21 @@ tests bytes old changes = do
   _ ← need (legal p.types h.inputs changes) change_wrong
   accepted (record { program = p; header = h })
 
-abbrev pub Tested : List ℕ → List ℤ → List ℤ → Outcome → Type 0
-Tested bytes old changes r = number_of r ≡ Paper.number_of (tests bytes old changes)
+abbrev pub Tested : List ℕ → List ℤ → List ℤ → Result Header Refusal → Type 0
+Tested bytes old changes r = Agrees (λ g h. HeaderAs old g.header h) (tests bytes old changes) r
 
--- they are passed
-pub record Startable (bytes : List ℕ) (old changes : List ℤ) : Type 0 where
+-- they are passed, and the header is this
+pub record Startable (bytes : List ℕ) (old : List ℤ) (head : Header) (changes : List ℤ) : Type 0 where
   pub ready : Ready
   pub passed : tests bytes old changes ≡ accepted ready
+  pub headed : HeaderAs old ready.header head
 
 -- ---- the root's visit
 
 -- the tests are passed with these changes, as they are handed in
-pub record Rooted (bytes : List ℕ) (old : List ℤ) (changes : Store) : Type 0 where
+pub record Rooted (bytes : List ℕ) (old : List ℤ) (head : Header) (changes : Store) : Type 0 where
   pub given : List ℤ
-  pub start : Startable bytes old given
+  pub start : Startable bytes old head given
   pub whole : changes.values ≡ padded given
 
 -- the visit of the root's entry
@@ -72,7 +82,6 @@ root_visit r changes = visit r.program.root (walk r.program.types r.program.root
 -- where a walk starts: behind the header
 abbrev pub start_at : ℕ → ℕ → List ℤ → Reached
 start_at v limit changes = record {
-  outcome = Accepted;
   changes = record { values = changes };
   left = limit;
   walked = 0;
@@ -84,8 +93,8 @@ start_at v limit changes = record {
 abbrev pub start_of : List ℕ → List ℤ → List ℤ → Reached
 start_of bytes old changes = start_at (variables bytes) (nat_abs (limit_of old)) changes
 
-abbrev pub RootsTo : List ℕ → List ℤ → Store → Reached → List ℤ → List ℤ → Type 0
-RootsTo bytes old changes r out after = (h : Rooted bytes old changes)
+abbrev pub RootsTo : List ℕ → List ℤ → Header → Store → Result Reached Refusal → List ℤ → List ℤ → Type 0
+RootsTo bytes old head changes r out after = (h : Rooted bytes old head changes)
     → VisitAs (root_visit h.start.ready changes.values) (start_of bytes old changes.values) r old (nat_abs (length_of old)) out after
 
 -- ---- the end
@@ -125,18 +134,20 @@ abbrev pub CompletesTo : ℕ → ℕ → Store → Store → Reached → List �
 CompletesTo v limit inputs outputs reached out r after = (h : Completable v limit inputs outputs reached out)
     → Answers (length out) (accepted (finished v limit h.ins h.outs h.visited)) r after
 
--- the whole patch, in so much room
-abbrev pub PatchAnswers : List ℕ → List ℤ → List ℤ → ℕ → Answer → List ℤ → Type 0
-PatchAnswers bytes old changes room r after = Answers room (finish_patch bytes old changes >>= within room) r after
+-- the whole patch, in so much room, but for the buffer of a refused one
+abbrev pub PatchAnswers : List ℕ → List ℤ → List ℤ → ℕ → Result Answer Refusal → List ℤ → Type 0
+PatchAnswers bytes old changes room r after = Agrees (λ f a. Answers room (accepted f) a after) (finish_patch bytes old changes >>= within room) r
 
 -- the root's visit has come to its end
-pub record Finishable (bytes : List ℕ) (old : List ℤ) (changes : Store) (r : Reached) (out : List ℤ) : Type 0 where
-  pub rooted : Rooted bytes old changes
+pub record Finishable (bytes : List ℕ) (old : List ℤ) (limit : ℕ) (changes : Store) (r : Reached) (out : List ℤ) : Type 0 where
+  pub head : Header
+  pub rooted : Rooted bytes old head changes
+  pub limits : limit ≡ head.limit
   pub visited : Visited
   pub comes : root_visit rooted.start.ready changes.values ≡ accepted visited
   pub before : List ℤ
   pub came : Came visited (start_of bytes old changes.values) r old (nat_abs (length_of old)) before out
 
-abbrev pub FinishesTo : List ℕ → List ℤ → Store → Reached → List ℤ → Answer → List ℤ → Type 0
-FinishesTo bytes old changes reached out r after = (h : Finishable bytes old changes reached out)
+abbrev pub FinishesTo : List ℕ → List ℤ → ℕ → Store → Reached → List ℤ → Result Answer Refusal → List ℤ → Type 0
+FinishesTo bytes old limit changes reached out r after = (h : Finishable bytes old limit changes reached out)
     → PatchAnswers bytes old h.rooted.given (length out) r after

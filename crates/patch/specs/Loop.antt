@@ -1,9 +1,9 @@
 -- What the contracts of a repeat say: its head with the count's record, the iterations that stay, and those that come anew or fall away.
 -- Assumes nothing.
-use Rattle.std.specs.Prelude.{◌≡◌, false, List, [], ◌++◌, ℕ, zero, suc, ◌+◌, ◌-◌, length, ℤ, eqb}
+use Rattle.std.specs.Prelude.{◌≡◌, false, List, [], ◌++◌, ℕ, zero, suc, ◌+◌, ◌-◌, length, ℤ, eqb, Result}
 use Rattle.std.proofs.Math.Option.{some}
 use Rattle.numbers.specs.Lay.{lay}
-use Rattle.rules.specs.Outcome.{accepted, refused, ◌>>=◌, choose}
+use Rattle.rules.specs.Outcome.{accepted, ◌>>=◌, choose}
 use Rattle.rules.specs.Outcome as Paper
 use Rattle.rules.specs.Value.{Ty}
 use Rattle.rules.specs.Tree.{Expression, Statement, repeat, mentions}
@@ -13,16 +13,16 @@ use Rattle.rules.specs.Patch.{Visited, Walked, Counts, no_steps, both, steps_of,
 use Rattle.rules.specs.Patch as Rules
 use Rattle.rules.proofs.Laws.Mentions.{◌⊆◌}
 use Rattle.rules.proofs.Laws.Parts.{part_at}
+use Rattle.table.specs.Agrees.{Agrees}
 use Rattle.table.specs.Lists.{list_at}
-use Rattle.table.specs.Paper.{refusal_for}
+use Rattle.table.specs.declared.answer.Refusal.{Refusal}
+use Rattle.table.specs.declared.script.Script.{Script}
 use Rattle.pieces.specs.Old.{part}
-use Rattle.pieces.specs.Snapshot.{olds, Standing, Patched, patched}
+use Rattle.pieces.specs.Snapshot.{olds, Named, Standing, Patched, patched}
 use Rattle.pieces.specs.Expression.{operand_of}
-use Rattle.pieces.specs.Entry.{Sound, Came, Ends, WalkAs, AdvancedBy}
+use Rattle.pieces.specs.Entry.{Sound, Came, WalkAs, AdvancedBy}
 use Rattle.pieces.specs.declared.entry.Reached.{Reached}
-use Rattle.pieces.specs.declared.expression.Shifted.{Shifted}
-use Rattle.pieces.specs.declared.expression.Shifted.TheVariants.{Is, Refused}
-use Rattle.patch.specs.Statement.{Node, Enterable}
+use Rattle.patch.specs.Statement.{listed, Node, Enterable}
 use Rattle.patch.specs.Head.{Head, head_of}
 
 -- ---- a repeat
@@ -42,22 +42,27 @@ count_of types vs e changes ws = do
 abbrev pub count_laid : List ℕ → List ℤ → ℕ → Count → List ℤ
 count_laid vs out at c = lay (lay out (at + 1) c.head.snap.new) (at + 1 + length vs) c.count.words
 
-abbrev pub CountAs : List ℕ → Paper.Outcome Count → Shifted → List ℤ → ℕ → List ℤ → Type 0
-CountAs vs (accepted c) r out at after = (r ≡ Is c.count.change (length c.count.words)) × (after ≡ count_laid vs out at c)
-CountAs vs (refused q) r out at after = r ≡ Refused (refusal_for q)
+-- the new count, and the length of its record
+pub record CountedAs (vs : List ℕ) (out : List ℤ) (at : ℕ) (after : List ℤ) (c : Count) (p : ℤ × ℕ) : Type 0 where
+  pub count : p.0 ≡ c.count.change
+  pub long : p.1 ≡ length c.count.words
+  pub lays : after ≡ count_laid vs out at c
 
-abbrev pub CountsTo : List ℕ → ℕ → List ℤ → ℕ → Reached → Shifted → List ℤ → List ℤ → Type 0
-CountsTo bytes node old end s r out after = (n : ℕ) (e : Expression) (b : Statement) → part_at bytes node ≡ some (statement (repeat n e b))
-    → CountAs (mentions (repeat n e b)) (count_of (types_of bytes) (mentions (repeat n e b)) e s.changes.values (part old s.from end)) r out s.at after
+abbrev pub CountAs : List ℕ → Paper.Outcome Count → Result (ℤ × ℕ) Refusal → List ℤ → ℕ → List ℤ → Type 0
+CountAs vs m r out at after = Agrees (CountedAs vs out at after) m r
+
+abbrev pub CountsTo : Script → ℕ → List ℤ → ℕ → Reached → Result (ℤ × ℕ) Refusal → List ℤ → List ℤ → Type 0
+CountsTo script node old end s r out after = (n : ℕ) (e : Expression) (b : Statement) → part_at script.checked.table.now node ≡ some (statement (repeat n e b))
+    → CountAs (mentions (repeat n e b)) (count_of (types_of script.checked.table.now) (mentions (repeat n e b)) e s.changes.values (part old s.from end)) r out s.at after
 
 -- the head is read: this is the count, and so long is its record
-pub record Counted (bytes : List ℕ) (base : ℕ) (lists : List ℕ) (node : ℕ) (new : ℤ) (length' : ℕ) (old : List ℤ) (end : ℕ) (s : Reached) : Type 0 where
-  pub entered : Enterable bytes base lists node old end s 20
+pub record Counted (script : Script) (node : ℕ) (new : ℤ) (length' : ℕ) (old : List ℤ) (end : ℕ) (s : Reached) : Type 0 where
+  pub entered : Enterable script node old end s 20
   pub e : Expression
   pub b : Statement
-  pub here : part_at bytes node ≡ some (statement (repeat node e b))
+  pub here : part_at script.checked.table.now node ≡ some (statement (repeat node e b))
   pub count : Count
-  pub counts : count_of (types_of bytes) (mentions (repeat node e b)) e s.changes.values (part old s.from end) ≡ accepted count
+  pub counts : count_of (types_of script.checked.table.now) (mentions (repeat node e b)) e s.changes.values (part old s.from end) ≡ accepted count
   pub is : new ≡ count.count.change
   pub size : length' ≡ length count.count.words
 
@@ -68,11 +73,11 @@ repeated types vs b c left changes = do
       (record { left = left; changes = changes; old = c.head.snap.old; new = c.head.snap.new; rest = c.count.rest })
   accepted (record { changes = w.changes; counts = w.counts; words = repeat_words c.count.change c.head.snap.new c.count.words w.words })
 
-abbrev pub IteratesTo : List ℕ → ℕ → ℤ → List ℤ → ℕ → Reached → Reached → List ℤ → List ℤ → Type 0
-IteratesTo bytes node new old end s r out after = (n : ℕ) (e : Expression) (b : Statement) → part_at bytes node ≡ some (statement (repeat n e b))
-    → (c : Count) → count_of (types_of bytes) (mentions (repeat n e b)) e s.changes.values (part old s.from end) ≡ accepted c
+abbrev pub IteratesTo : Script → ℕ → ℤ → List ℤ → ℕ → Reached → Result Reached Refusal → List ℤ → List ℤ → Type 0
+IteratesTo script node new old end s r out after = (n : ℕ) (e : Expression) (b : Statement) → part_at script.checked.table.now node ≡ some (statement (repeat n e b))
+    → (c : Count) → count_of (types_of script.checked.table.now) (mentions (repeat n e b)) e s.changes.values (part old s.from end) ≡ accepted c
     → new ≡ c.count.change → (out₀ : List ℤ) → out ≡ count_laid (mentions (repeat n e b)) out₀ s.at c
-    → WalkAs (repeated (types_of bytes) (mentions (repeat n e b)) b c s.left s.changes.values) s r old end out₀ after
+    → WalkAs (repeated (types_of script.checked.table.now) (mentions (repeat n e b)) b c s.left s.changes.values) s r old end out₀ after
 
 -- ---- iterations that stay
 
@@ -115,15 +120,15 @@ abbrev pub turn_at : Reached → List ℤ → ℕ → List ℤ → List ℤ → 
 turn_at s old end was new = record { left = s.left; changes = s.changes.values; old = was; new = new; rest = part old s.from end }
 
 -- the last old snapshot stands here, and the new one is it plus the changes
-pub record LastAt (bytes lists : List ℕ) (node : ℕ) (old : List ℤ) (last : ℕ) (t : Turn) : Type 0 where
-  pub standing : Standing bytes lists node old last
-  pub was : t.old ≡ olds old last (list_at lists node)
-  pub moved : moved_all (types_of bytes) (list_at lists node) t.old t.changes ≡ accepted t.new
+pub record LastAt (script : Script) (node : ℕ) (old : List ℤ) (last : ℕ) (t : Turn) : Type 0 where
+  pub standing : Standing script.checked.table.now script.lists.now.lists node old last
+  pub was : t.old ≡ olds old last (listed script node)
+  pub moved : moved_all (types_of script.checked.table.now) (listed script node) t.old t.changes ≡ accepted t.new
 
 -- the body is below the node, and the walk stands before an iteration
-pub record Turnable (bytes : List ℕ) (base : ℕ) (lists : List ℕ) (node body : ℕ) (old : List ℤ) (end : ℕ) (s : Reached) : Type 0 where
-  pub known : Node bytes base lists node
-  pub bodied : Node bytes base lists body
+pub record Turnable (script : Script) (node body : ℕ) (old : List ℤ) (end : ℕ) (s : Reached) : Type 0 where
+  pub known : Node script node
+  pub bodied : Node script body
   pub within : mentions bodied.tree ⊆ mentions known.tree
   pub sound : Sound old end s
 
@@ -132,59 +137,63 @@ abbrev pub visited : Turned → Visited
 visited a = record { changes = a.turn.changes; counts = a.counts; words = a.words; rest = a.turn.rest }
 
 -- the walk has come behind these iterations, and the last old snapshot stands there
-pub record TurnCame (bytes lists : List ℕ) (node last : ℕ) (a : Turned) (s r : Reached) (old : List ℤ) (end : ℕ) (out out' : List ℤ) : Type 0 where
+pub record TurnCame (script : Script) (node last : ℕ) (a : Turned) (s r : Reached) (old : List ℤ) (end : ℕ) (out out' : List ℤ) : Type 0 where
   pub came : Came (visited a) s r old end out out'
   pub left : a.turn.left ≡ r.left
-  pub lastly : LastAt bytes lists node old last a.turn
+  pub lastly : LastAt script node old last a.turn
 
 -- where the last old snapshot stands behind so many iterations: the one before where there are none
 abbrev pub last_of : ℕ → ℕ → ℕ → ℕ → ℕ
 last_of count first place width = choose (eqb count 0) first (place - width)
 
-abbrev pub TurnAs : List ℕ → List ℕ → ℕ → ℕ → ℕ → Paper.Outcome Turned → Reached → Reached → List ℤ → ℕ → List ℤ → List ℤ → Type 0
-TurnAs bytes lists node count first m s r old end out out' =
-    Ends (λ a. TurnCame bytes lists node (last_of count first r.from (length (list_at lists node))) a s r old end out out') m r
+abbrev pub TurnAs : Script → ℕ → ℕ → ℕ → Paper.Outcome Turned → Reached → Result Reached Refusal → List ℤ → ℕ → List ℤ → List ℤ → Type 0
+TurnAs script node count first m s r old end out out' =
+    Agrees (λ a to. TurnCame script node (last_of count first to.from (length (listed script node))) a s to old end out out') m r
 
 -- the snapshot after an iteration takes its changes
-abbrev pub SnapAs : ℕ → Paper.Outcome Patched → Reached → Reached → List ℤ → List ℤ → Type 0
-SnapAs width m s r out out' = Ends (λ p. AdvancedBy width s r × (out' ≡ lay out s.at p.new)) m r
+abbrev pub SnapAs : ℕ → Paper.Outcome Patched → Reached → Result Reached Refusal → List ℤ → List ℤ → Type 0
+SnapAs width m s r out out' = Agrees (λ p to. AdvancedBy width s to × (out' ≡ lay out s.at p.new)) m r
 
-abbrev pub SnapsTo : List ℕ → List ℕ → ℕ → List ℤ → ℕ → Reached → Reached → List ℤ → List ℤ → Type 0
+-- such a snapshot may stand before the walk
+pub record Snappable (bytes lists : List ℕ) (node : ℕ) (old : List ℤ) (end : ℕ) (s : Reached) : Type 0 where
+  pub named : Named bytes lists node
+  pub sound : Sound old end s
+
+abbrev pub SnapsTo : List ℕ → List ℕ → ℕ → List ℤ → ℕ → Reached → Result Reached Refusal → List ℤ → List ℤ → Type 0
 SnapsTo bytes lists node old end s r out out' =
     SnapAs (length (list_at lists node)) (patched (types_of bytes) (list_at lists node) s.changes.values (part old s.from end)) s r out out'
 
-abbrev pub TurnTo : List ℕ → List ℕ → ℕ → ℕ → List ℤ → ℕ → Reached → Reached → List ℤ → List ℤ → Type 0
-TurnTo bytes lists node body old end s r out out' = (b : Statement) → part_at bytes body ≡ some (statement b) → (was new : List ℤ)
-    → TurnAs bytes lists node 1 0 (turn_of (types_of bytes) (visit b (walk (types_of bytes) b) false) (list_at lists node) (turn_at s old end was new)) s r old end out out'
+abbrev pub TurnTo : Script → ℕ → ℕ → List ℤ → ℕ → Reached → Result Reached Refusal → List ℤ → List ℤ → Type 0
+TurnTo script node body old end s r out out' = (b : Statement) → part_at script.checked.table.now body ≡ some (statement b) → (was new : List ℤ)
+    → TurnAs script node 1 0 (turn_of (types_of script.checked.table.now) (visit b (walk (types_of script.checked.table.now) b) false) (listed script node) (turn_at s old end was new)) s r old end out out'
 
-abbrev pub TurnsTo : List ℕ → List ℕ → ℕ → ℕ → ℕ → List ℤ → ℕ → Reached → Reached → List ℤ → List ℤ → Type 0
-TurnsTo bytes lists node body count old end s r out out' = (b : Statement) → part_at bytes body ≡ some (statement b)
-    → (first : ℕ) (was new : List ℤ) → LastAt bytes lists node old first (turn_at s old end was new)
-    → TurnAs bytes lists node count first (turns_of (types_of bytes) (visit b (walk (types_of bytes) b) false) (list_at lists node) count (turn_at s old end was new)) s r old end out out'
+abbrev pub TurnsTo : Script → ℕ → ℕ → ℕ → List ℤ → ℕ → Reached → Result Reached Refusal → List ℤ → List ℤ → Type 0
+TurnsTo script node body count old end s r out out' = (b : Statement) → part_at script.checked.table.now body ≡ some (statement b)
+    → (first : ℕ) (was new : List ℤ) → LastAt script node old first (turn_at s old end was new)
+    → TurnAs script node count first (turns_of (types_of script.checked.table.now) (visit b (walk (types_of script.checked.table.now) b) false) (listed script node) count (turn_at s old end was new)) s r old end out out'
 
 -- ---- the iterations that come anew or fall away
 
 -- the walk stands behind the iterations that stay, and the last old snapshot stands here
-pub record Endable (bytes : List ℕ) (base : ℕ) (lists : List ℕ) (node body last : ℕ) (old : List ℤ) (end : ℕ) (s : Reached) : Type 0 where
-  pub turnable : Turnable bytes base lists node body old end s
+pub record Endable (script : Script) (node body last : ℕ) (old : List ℤ) (end : ℕ) (s : Reached) : Type 0 where
+  pub turnable : Turnable script node body old end s
   pub was : List ℤ
   pub new : List ℤ
-  pub lastly : LastAt bytes lists node old last (turn_at s old end was new)
+  pub lastly : LastAt script node old last (turn_at s old end was new)
 
 -- the same of what falls away, whatever the body is
-pub record Shrinkable (bytes lists : List ℕ) (node last : ℕ) (old : List ℤ) (end : ℕ) (s : Reached) : Type 0 where
-  pub base : ℕ
-  pub known : Node bytes base lists node
+pub record Shrinkable (script : Script) (node last : ℕ) (old : List ℤ) (end : ℕ) (s : Reached) : Type 0 where
+  pub known : Node script node
   pub sound : Sound old end s
   pub was : List ℤ
   pub new : List ℤ
-  pub lastly : LastAt bytes lists node old last (turn_at s old end was new)
+  pub lastly : LastAt script node old last (turn_at s old end was new)
 
-abbrev pub EndsTo : List ℕ → List ℕ → ℕ → ℕ → ℕ → ℕ → ℕ → List ℤ → ℕ → Reached → Reached → List ℤ → List ℤ → Type 0
-EndsTo bytes lists node body dropped more last old end s r out out' = (b : Statement) → part_at bytes body ≡ some (statement b)
-    → (was new : List ℤ) → LastAt bytes lists node old last (turn_at s old end was new)
-    → WalkAs (loop (types_of bytes) (visit b (walk (types_of bytes) b) false) (run b) (list_at lists node) dropped more (turn_at s old end was new)) s r old end out out'
+abbrev pub EndsTo : Script → ℕ → ℕ → ℕ → ℕ → ℕ → List ℤ → ℕ → Reached → Result Reached Refusal → List ℤ → List ℤ → Type 0
+EndsTo script node body dropped more last old end s r out out' = (b : Statement) → part_at script.checked.table.now body ≡ some (statement b)
+    → (was new : List ℤ) → LastAt script node old last (turn_at s old end was new)
+    → WalkAs (loop (types_of script.checked.table.now) (visit b (walk (types_of script.checked.table.now) b) false) (run b) (listed script node) dropped more (turn_at s old end was new)) s r old end out out'
 
-abbrev pub ShrinksTo : List ℕ → List ℕ → ℕ → ℕ → List ℤ → ℕ → Reached → Reached → Type 0
-ShrinksTo bytes lists node last old end s r = (out was new : List ℤ) → LastAt bytes lists node old last (turn_at s old end was new)
-    → WalkAs (shrunk (types_of bytes) (list_at lists node) (turn_at s old end was new)) s r old end out out
+abbrev pub ShrinksTo : Script → ℕ → ℕ → List ℤ → ℕ → Reached → Result Reached Refusal → Type 0
+ShrinksTo script node last old end s r = (out was new : List ℤ) → LastAt script node old last (turn_at s old end was new)
+    → WalkAs (shrunk (types_of script.checked.table.now) (listed script node) (turn_at s old end was new)) s r old end out out

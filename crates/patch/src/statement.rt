@@ -1,262 +1,175 @@
 // Statements: the walk through an entry of the old record, with the new entry laid down from a place on.
-ghost use Rattle.std.specs.Prelude.{◌≡◌};
-ghost use Prim.Native.Nat.{◌+◌, ◌≤◌};
+ghost use Rattle.std.specs.Prelude.{◌≡◌, ◌≤◌};
 ghost use Rattle.patch.specs.Statement.{Visitable, VisitsTo, Payable, PaysTo, Inner, Enterable, WalksTo};
 ghost use Rattle.patch.specs.Branch.{Forked, KeepsTo};
 ghost use Rattle.patch.specs.Loop.{Counted, IteratesTo, Turnable, TurnsTo, TurnTo, last_of};
 
 use crate::parts::{assign, count, ended, flipped, fork, snapped};
-use pieces::entry::{Met, Reached, advanced, meet, skip, stepped, stopped};
-use pieces::expression::Shifted;
-use pieces::snapshot::{move_snapshot, unchanged, width};
+use pieces::entry::{Met, Reached, advanced, meet, skip, stepped};
+use pieces::snapshot::{move_snapshot, unchanged};
 use run::statement::{open, taken, times};
 use run::words::put;
-use table::access::{child_a, child_b, kind};
-use table::answer::{Outcome, Refusal};
+use table::answer::Refusal;
+use table::kind::Kind;
+use table::script::Script;
 
 // The visit of the entry of the statement at a node: skipped where nothing that it mentions has changed, else walked.
-#[cycle(branch_iterate_kept_looped_parts_pay_sequence_turn_turns_visit)]
+#[cycle(visits)]
 pub fn visit(
-    t: &[u8],
-    base: usize,
-    lists: &[u8; 16896],
+    script: &Script,
     node: usize,
     last: bool,
     old: &[i64],
     end: usize,
     reached: Reached,
     out: &mut [i64],
-) -> Reached
-    requires { Visitable t.now base lists.now node old.now end reached }
-    ensures { VisitsTo t.now node last old.now end reached result out.old out.new }
+) -> Result<Reached, Refusal>
+    requires { Visitable script.now node old.now end reached }
+    ensures { VisitsTo script.now node last old.now end reached result out.old out.new }
 {
-    let from = reached.from;
-    let met = meet(node, last, old, from, end);
-    let Met::Is(stop, steps) = met else {
-        return stopped(reached, Refusal::Broken);
-    };
-    let changes = reached.changes;
-    if unchanged(lists, node, &changes.values) {
-        return skip(old, stop, steps, reached, out);
+    let met = meet(node, last, old, reached.from, end)?;
+    if unchanged(script.lists, node, &reached.changes.values) {
+        return skip(old, met, reached, out);
     }
-    pay(t, base, lists, node, old, stop, reached, out)
+    pay(script, node, old, met.stop, reached, out)
 }
 
 // A walked entry: a step, its parts, and then the entry's opening words.
-#[cycle(branch_iterate_kept_looped_parts_pay_sequence_turn_turns_visit)]
+#[cycle(visits)]
 fn pay(
-    t: &[u8],
-    base: usize,
-    lists: &[u8; 16896],
+    script: &Script,
     node: usize,
     old: &[i64],
     stop: usize,
     reached: Reached,
     out: &mut [i64],
-) -> Reached
-    requires { Payable t.now base lists.now node old.now stop reached }
-    ensures { PaysTo t.now node old.now stop reached result out.old out.new }
+) -> Result<Reached, Refusal>
+    requires { Payable script.now node old.now stop reached }
+    ensures { PaysTo script.now node old.now stop reached result out.old out.new }
 {
     let left = reached.left;
     let at = reached.at;
     if left == 0 {
-        return stopped(reached, Refusal::Fuel);
+        return Err(Refusal::Fuel);
     }
-    let inside = parts(t, base, lists, node, old, stop, stepped(reached), out);
-    let outcome = inside.outcome;
-    let Outcome::Accepted = outcome else {
-        return inside;
-    };
-    let behind = inside.at;
-    let rest = inside.left;
-    open(out, at, node, behind - at, left - rest);
-    inside
+    let gone = parts(script, node, old, stop, stepped(reached), out)?;
+    open(out, at, node, gone.at - at, left - gone.left);
+    Ok(gone)
 }
 
 // A walked entry's parts, by the statement's kind.
-#[cycle(branch_iterate_kept_looped_parts_pay_sequence_turn_turns_visit)]
+#[cycle(visits)]
 fn parts(
-    t: &[u8],
-    base: usize,
-    lists: &[u8; 16896],
+    script: &Script,
     node: usize,
     old: &[i64],
     end: usize,
     reached: Reached,
     out: &mut [i64],
-) -> Reached
-    requires { Inner t.now base lists.now node old.now end reached }
-    ensures { WalksTo t.now node old.now end reached result out.old out.new }
+) -> Result<Reached, Refusal>
+    requires { Inner script.now node old.now end reached }
+    ensures { WalksTo script.now node old.now end reached result out.old out.new }
 {
-    let k = kind(t, base + 8 * node);
-    if k == 17 {
-        return assign(t, base, lists, node, old, end, reached, out);
+    match script.node(node).kind {
+        Kind::Assign => assign(script, node, old, end, reached, out),
+        Kind::Sequence => sequence(script, node, old, end, reached, out),
+        Kind::If => branch(script, node, old, end, reached, out),
+        Kind::Repeat => looped(script, node, old, end, reached, out),
+        _ => unreachable!(),
     }
-    if k == 18 {
-        return sequence(t, base, lists, node, old, end, reached, out);
-    }
-    if k == 19 {
-        return branch(t, base, lists, node, old, end, reached, out);
-    }
-    looped(t, base, lists, node, old, end, reached, out)
 }
 
 // A sequence's parts: both entries in turn.
-#[cycle(branch_iterate_kept_looped_parts_pay_sequence_turn_turns_visit)]
+#[cycle(visits)]
 fn sequence(
-    t: &[u8],
-    base: usize,
-    lists: &[u8; 16896],
+    script: &Script,
     node: usize,
     old: &[i64],
     end: usize,
     reached: Reached,
     out: &mut [i64],
-) -> Reached
-    requires { Enterable t.now base lists.now node old.now end reached 18 }
-    ensures { WalksTo t.now node old.now end reached result out.old out.new }
+) -> Result<Reached, Refusal>
+    requires { Enterable script.now node old.now end reached 18 }
+    ensures { WalksTo script.now node old.now end reached result out.old out.new }
 {
-    let place = base + 8 * node;
-    let first = visit(
-        t,
-        base,
-        lists,
-        child_a(t, place),
-        false,
-        old,
-        end,
-        reached,
-        out,
-    );
-    let outcome = first.outcome;
-    let Outcome::Accepted = outcome else {
-        return first;
-    };
-    visit(
-        t,
-        base,
-        lists,
-        child_b(t, place),
-        true,
-        old,
-        end,
-        first,
-        out,
-    )
+    let top = script.node(node);
+    let first = visit(script, top.a, false, old, end, reached, out)?;
+    visit(script, top.b, true, old, end, first, out)
 }
 
 // An if's parts: the head, and then the branch, kept or flipped.
-#[cycle(branch_iterate_kept_looped_parts_pay_sequence_turn_turns_visit)]
+#[cycle(visits)]
 fn branch(
-    t: &[u8],
-    base: usize,
-    lists: &[u8; 16896],
+    script: &Script,
     node: usize,
     old: &[i64],
     end: usize,
     reached: Reached,
     out: &mut [i64],
-) -> Reached
-    requires { Enterable t.now base lists.now node old.now end reached 19 }
-    ensures { WalksTo t.now node old.now end reached result out.old out.new }
+) -> Result<Reached, Refusal>
+    requires { Enterable script.now node old.now end reached 19 }
+    ensures { WalksTo script.now node old.now end reached result out.old out.new }
 {
-    let test = fork(t, base, lists, node, old, end, reached, out);
-    match test {
-        Shifted::Refused(q) => stopped(reached, q),
-        Shifted::Is(change, length) => {
-            if change == 0 {
-                return kept(t, base, lists, node, length, old, end, reached, out);
-            }
-            flipped(t, base, lists, node, change, length, old, end, reached, out)
-        }
+    let (change, length) = fork(script, node, old, end, reached, out)?;
+    if change == 0 {
+        return kept(script, node, length, old, end, reached, out);
     }
+    flipped(script, node, change, length, old, end, reached, out)
 }
 
 // An if whose condition is kept: the branch is patched, and the snapshot after takes the changes behind it.
-#[cycle(branch_iterate_kept_looped_parts_pay_sequence_turn_turns_visit)]
+#[cycle(visits)]
 fn kept(
-    t: &[u8],
-    base: usize,
-    lists: &[u8; 16896],
+    script: &Script,
     node: usize,
     length: usize,
     old: &[i64],
     end: usize,
     reached: Reached,
     out: &mut [i64],
-) -> Reached
-    requires { Forked t.now base lists.now node length old.now end reached }
-    ensures { KeepsTo t.now node old.now end reached result out.old out.new }
+) -> Result<Reached, Refusal>
+    requires { Forked script.now node length old.now end reached }
+    ensures { KeepsTo script.now node old.now end reached result out.old out.new }
 {
     let from = reached.from;
     let at = reached.at;
     let condition = old[from];
-    let w = width(lists, node);
-    let same = taken(t, base + 8 * node, condition);
-    let gone = visit(
-        t,
-        base,
-        lists,
-        same,
-        true,
-        old,
-        end,
-        advanced(reached, 1 + 2 * w + length),
-        out,
-    );
-    let outcome = gone.outcome;
-    let Outcome::Accepted = outcome else {
-        return gone;
-    };
-    let changes = gone.changes;
+    let w = script.mentions(node).len();
+    let top = script.node(node);
+    let same = taken(top.b, top.c, condition);
+    let behind = advanced(reached, 1 + 2 * w + length);
+    let gone = visit(script, same, true, old, end, behind, out)?;
     if !move_snapshot(
-        t,
-        lists,
+        script.checked.table,
+        script.lists,
         node,
         old,
         from + 1 + w,
-        &changes.values,
+        &gone.changes.values,
         out,
         at + 1 + w,
     ) {
-        return stopped(gone, Refusal::Broken);
+        return Err(Refusal::Broken);
     }
     put(out, at, condition);
-    gone
+    Ok(gone)
 }
 
 // A repeat's parts: the head, and then the iterations.
-#[cycle(branch_iterate_kept_looped_parts_pay_sequence_turn_turns_visit)]
+#[cycle(visits)]
 fn looped(
-    t: &[u8],
-    base: usize,
-    lists: &[u8; 16896],
+    script: &Script,
     node: usize,
     old: &[i64],
     end: usize,
     reached: Reached,
     out: &mut [i64],
-) -> Reached
-    requires { Enterable t.now base lists.now node old.now end reached 20 }
-    ensures { WalksTo t.now node old.now end reached result out.old out.new }
+) -> Result<Reached, Refusal>
+    requires { Enterable script.now node old.now end reached 20 }
+    ensures { WalksTo script.now node old.now end reached result out.old out.new }
 {
-    let counted = count(t, base, lists, node, old, end, reached, out);
-    match counted {
-        Shifted::Refused(q) => stopped(reached, q),
-        Shifted::Is(new, length) => iterate(
-            t, base, lists, node, new, length, old, end, reached, out,
-        ),
-    }
-}
-
-// The smaller of two numbers.
-fn least(a: usize, b: usize) -> usize
-    ensures { result ≡ Prim.Native.Nat.min a b }
-{
-    if a < b {
-        return a;
-    }
-    b
+    let (new, length) = count(script, node, old, end, reached, out)?;
+    iterate(script, node, new, length, old, end, reached, out)
 }
 
 // Where the last old snapshot stands behind so many iterations: the one before where there are none.
@@ -271,11 +184,9 @@ fn last_of(count: usize, first: usize, behind: usize, w: usize) -> usize
 }
 
 // A repeat's iterations: those that stay are patched, and then the rest.
-#[cycle(branch_iterate_kept_looped_parts_pay_sequence_turn_turns_visit)]
+#[cycle(visits)]
 fn iterate(
-    t: &[u8],
-    base: usize,
-    lists: &[u8; 16896],
+    script: &Script,
     node: usize,
     new: i64,
     length: usize,
@@ -283,57 +194,28 @@ fn iterate(
     end: usize,
     reached: Reached,
     out: &mut [i64],
-) -> Reached
-    requires { Counted t.now base lists.now node new length old.now end reached }
-    ensures { IteratesTo t.now node new old.now end reached result out.old out.new }
+) -> Result<Reached, Refusal>
+    requires { Counted script.now node new length old.now end reached }
+    ensures { IteratesTo script.now node new old.now end reached result out.old out.new }
 {
     let from = reached.from;
     let at = reached.at;
-    let body = child_b(t, base + 8 * node);
-    let w = width(lists, node);
+    let body = script.node(node).b;
+    let w = script.mentions(node).len();
     let was = times(old[from]);
     let next = times(new);
-    let stay = least(was, next);
-    let gone = turns(
-        t,
-        base,
-        lists,
-        node,
-        body,
-        stay,
-        old,
-        end,
-        advanced(reached, 1 + w + length),
-        out,
-    );
-    let outcome = gone.outcome;
-    let Outcome::Accepted = outcome else {
-        return gone;
-    };
+    let stay = was.min(next);
+    let behind = advanced(reached, 1 + w + length);
+    let gone = turns(script, node, body, stay, old, end, behind, out)?;
     put(out, at, new);
-    let behind = gone.from;
-    ended(
-        t,
-        base,
-        lists,
-        node,
-        body,
-        was,
-        next,
-        last_of(stay, from + 1, behind, w),
-        old,
-        end,
-        gone,
-        out,
-    )
+    let last = last_of(stay, from + 1, gone.from, w);
+    ended(script, node, body, was, next, last, old, end, gone, out)
 }
 
 // So many iterations that stay: each visits the body, and the snapshot after it takes its changes.
-#[cycle(branch_iterate_kept_looped_parts_pay_sequence_turn_turns_visit)]
+#[cycle(visits)]
 fn turns(
-    t: &[u8],
-    base: usize,
-    lists: &[u8; 16896],
+    script: &Script,
     node: usize,
     body: usize,
     count: usize,
@@ -341,43 +223,39 @@ fn turns(
     end: usize,
     reached: Reached,
     out: &mut [i64],
-) -> Reached
-    requires { Turnable t.now base lists.now node body old.now end reached }
-    ensures { TurnsTo t.now lists.now node body count old.now end reached result out.old out.new }
+) -> Result<Reached, Refusal>
+    requires { Turnable script.now node body old.now end reached }
+    ensures { TurnsTo script.now node body count old.now end reached result out.old out.new }
 {
     let mut so_far = reached;
-    let mut i = 0;
-    while i < count {
-        so_far = turn(t, base, lists, node, body, old, end, so_far, out);
-        let outcome = so_far.outcome;
-        let Outcome::Accepted = outcome else {
-            return so_far;
-        };
-        i += 1;
+    for _ in 0..count {
+        so_far = turn(script, node, body, old, end, so_far, out)?;
     }
-    so_far
+    Ok(so_far)
 }
 
 // An iteration that stays.
-#[cycle(branch_iterate_kept_looped_parts_pay_sequence_turn_turns_visit)]
+#[cycle(visits)]
 fn turn(
-    t: &[u8],
-    base: usize,
-    lists: &[u8; 16896],
+    script: &Script,
     node: usize,
     body: usize,
     old: &[i64],
     end: usize,
     reached: Reached,
     out: &mut [i64],
-) -> Reached
-    requires { Turnable t.now base lists.now node body old.now end reached }
-    ensures { TurnTo t.now lists.now node body old.now end reached result out.old out.new }
+) -> Result<Reached, Refusal>
+    requires { Turnable script.now node body old.now end reached }
+    ensures { TurnTo script.now node body old.now end reached result out.old out.new }
 {
-    let gone = visit(t, base, lists, body, false, old, end, reached, out);
-    let outcome = gone.outcome;
-    let Outcome::Accepted = outcome else {
-        return gone;
-    };
-    snapped(t, lists, node, old, end, gone, out)
+    let gone = visit(script, body, false, old, end, reached, out)?;
+    snapped(
+        script.checked.table,
+        script.lists,
+        node,
+        old,
+        end,
+        gone,
+        out,
+    )
 }

@@ -12,17 +12,19 @@ use lib.IntN.{ℤ, pos}
 use borrow.Author.Tests.{ne_eqb, eq-eqb, leb-true}
 use Rattle.numbers.specs.Laws.{and_left, and_right}
 use Rattle.rules.specs.Table.{u16, check}
-use Rattle.rules.specs.Outcome.{choose}
+use Rattle.std.specs.Prelude.{Result, Ok, Err, ⊤}
+use Rattle.rules.specs.Outcome.{accepted, refused, choose}
+use Rattle.rules.specs.Outcome as Paper
 use Rattle.rules.specs.Value.{at}
 use Rattle.rules.specs.Call.{Called, IsCheck, call_check, IsRun, call_run, IsPatch, call_patch}
+use Rattle.rules.proofs.Laws.Answer.{number_some}
 use Rattle.rules.proofs.Laws.Header.{Sized, sized}
-use Rattle.table.specs.Paper.{number_of, answer_of}
+use Rattle.table.specs.Paper.{number_of, reason_of, outcome_of, answer_of}
 use Rattle.table.specs.declared.answer.Answer.{Answer}
 use Rattle.table.specs.declared.answer.Refusal.{Refusal}
 use Rattle.table.specs.declared.answer.Outcome.{Outcome}
 use Rattle.table.specs.declared.answer.Outcome.TheVariants.{Accepted, Refused}
 use Rattle.text.specs.Words.{Decoded}
-use Rattle.run.specs.Laws.Tests.{accepted_of, refused_some}
 use Rattle.patchlist.specs.Session.{opens, kept, handed, handed_on, words_of, calls_end, words_end, table_end, session_end}
 
 -- ---- the header
@@ -37,11 +39,22 @@ module _ (s : List ℕ) where
       let last : (leb (u16 s 6) 64 && leb (8 + u16 s 2) (length s)) ≡ true = and_right (eqb (u16 s 4) (8 + u16 s 2)) _ (and_right (eqb (u16 s 0) 8) _ first) in
       (leb-true _ _ (and_left (leb 8 (length s)) _ o), leb-true _ _ (and_left (leb (u16 s 6) 64) _ last), leb-true _ _ (and_right (leb (u16 s 6) 64) _ last))
 
+-- ---- the number of an outcome
+
+-- a call that is refused has a number above 0
+refused_some : {r : Outcome} (q : Refusal) → r ≡ Refused q → number_of r ≡ 0 → ⊥
+refused_some q e z = omega (arith, number_some (reason_of q), ap number_of e, z)
+
+accepted_of : {A : Type 0} (m : Paper.Outcome A) → 0 ≡ Paper.number_of m → (a : A) × (m ≡ accepted a)
+unfolding Paper.number_of
+accepted_of (accepted a) e = (a, refl)
+accepted_of (refused r) e = absurd (omega (arith, number_some r, e))
+
 -- ---- an accepted table
 
-pub table_sized : (t : List ℕ) (r : Outcome) → r ≡ Accepted → IsCheck t (number_of r) → Sized t
+pub table_sized : (t : List ℕ) (r : Result ⊤ Refusal) {u : ⊤} → r ≡ Ok u → IsCheck t (number_of (outcome_of r)) → Sized t
 unfolding IsCheck call_check
-table_sized t r e h = let p = accepted_of (check t) (sym (ap number_of e) ∙ h) in sized t p.0 p.1
+table_sized t r e h = let p = accepted_of (check t) (sym (ap (λ m. number_of (outcome_of m)) e) ∙ h) in sized t p.0 p.1
 
 -- ---- the record that a patch hands on
 
@@ -148,14 +161,14 @@ module _ (t : List ℕ) (v k : ℕ) (behind : List ℕ) (last : List ℤ) where
       f ∙ ap (calls_end t v k) (w ∙ ap (words_of behind) c)
       ∙ chosen (eqb (length behind) (8 * (1 + v + k * v))) _ last (eq-eqb (length behind) (8 * (1 + v + k * v)) (e ∙ ap (8 *◌) c))
 
-module _ (t : List ℕ) (k : ℕ) (behind : List ℕ) (last : List ℤ) (r : Outcome) (is : IsCheck t (number_of r)) where
-  pub table_refused : (q : Refusal) → r ≡ Refused q → last ≡ table_end t k behind last
+module _ (t : List ℕ) (k : ℕ) (behind : List ℕ) (last : List ℤ) (r : Result ⊤ Refusal) (is : IsCheck t (number_of (outcome_of r))) where
+  pub table_refused : (q : Refusal) → r ≡ Err q → last ≡ table_end t k behind last
   unfolding table_end IsCheck
-  table_refused q e = kept_old _ last _ (λ z. refused_some q e (is ∙ z))
+  table_refused q e = kept_old _ last _ (λ z. refused_some q (ap outcome_of e) (is ∙ z))
 
-  pub table_accepted : (v : ℕ) → v ≡ u16 t 4 → r ≡ Accepted → {after : List ℤ} → after ≡ words_end t v k behind last → after ≡ table_end t k behind last
+  pub table_accepted : (v : ℕ) → v ≡ u16 t 4 → {u : ⊤} → r ≡ Ok u → {after : List ℤ} → after ≡ words_end t v k behind last → after ≡ table_end t k behind last
   unfolding table_end IsCheck
-  table_accepted v w e f = f ∙ ap (λ (n : ℕ). words_end t n k behind last) w ∙ kept_new _ last _ (sym is ∙ ap number_of e)
+  table_accepted v w e f = f ∙ ap (λ (n : ℕ). words_end t n k behind last) w ∙ kept_new _ last _ (sym is ∙ ap (λ m. number_of (outcome_of m)) e)
 
 module _ (s : List ℕ) (last : List ℤ) where
   pub session_refused : opens s ≡ false → last ≡ session_end s last

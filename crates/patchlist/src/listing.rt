@@ -26,7 +26,7 @@ fn list_patch<W: Write>(
 {
     let mut new = [0i64; ROOM];
     let answer = patch(session.table, old, changes, &mut new);
-    listing.answer("patch", &answer, session.variables);
+    listing.answer(b"patch", answer, session.variables);
     if let Outcome::Accepted = answer.outcome {
         *old = new;
     }
@@ -44,7 +44,7 @@ fn list_patches<W: Write>(
     ensures { old.new ≡ handed_on session.now.table.now session.now.variables lists.now old.old session.now.patches }
 {
     let v = session.variables;
-    // A program may have no variables, and `chunks_exact` takes no size of 0.
+    // `chunks_exact` takes no size of 0, and a session does not say that there is a variable.
     for i in 0..session.patches {
         let from = i * v;
         list_patch(listing, session, &lists[from..from + v], old);
@@ -63,7 +63,7 @@ fn list_calls<W: Write>(
 {
     let v = session.variables;
     let answer = run(session.table, &words[1..1 + v], words[0], last);
-    listing.answer("run", &answer, v);
+    listing.answer(b"run", answer, v);
     if let Outcome::Accepted = answer.outcome {
         list_patches(listing, session, &words[1 + v..], last);
     }
@@ -101,10 +101,9 @@ fn list_table<W: Write>(
     requires { patches ≤ 64 }
     ensures { last.new ≡ table_end table.now patches behind.now last.old }
 {
-    let checked = check(table);
-    match checked {
-        Outcome::Refused(_) => listing.refuse("run", checked),
-        Outcome::Accepted => {
+    match check(table) {
+        Err(reason) => listing.refuse(b"run", reason),
+        Ok(()) => {
             let session = Session {
                 table,
                 variables: pair(table, 4),

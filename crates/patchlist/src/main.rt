@@ -12,7 +12,7 @@
 // A line is the call, 0, steps, walked, reused, fresh, the record's length and the V output values; or the call and the number of
 // its refusal. A session that is none, or whose count of words is wrong, is the line `session refused`.
 //
-// Where reading, writing or memory fails, the program ends with the error and the status 1.
+// A read that fails counts as the end of the input, and a write that fails is not told.
 #![tactic(auto)]
 
 mod listing;
@@ -29,9 +29,10 @@ use std::io::{BufWriter, Read};
 fn main(rt: HostRuntime) -> io::Result<()> {
     let alloc = rt.alloc();
     let mut input = Vec::new(alloc);
-    rt.reader().take(MOST_INPUT).read_to_end(&mut input)?;
+    let _read = rt.reader().take(MOST_INPUT).read_to_end(&mut input);
     let mut listing = Listing::new(BufWriter::new(alloc, io::writer(&rt))?);
     let mut last = [0i64; ROOM];
     list(&mut listing, &input, &mut last);
-    listing.finish()
+    let _told = listing.finish();
+    Ok(())
 }

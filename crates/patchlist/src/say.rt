@@ -4,8 +4,7 @@ ghost use Rattle.std.specs.Prelude.{◌≤◌};
 use std::fmt::Display;
 use std::io;
 use std::io::Write;
-use table::answer::{Answer, Outcome};
-use table::paper::number_of;
+use table::answer::{Answer, Outcome, Refusal};
 use text::line::{Counts, Words};
 
 // A listing as it is written. The first failure to write is kept for the end: it ends the writing, and not the calls, so that the
@@ -16,6 +15,12 @@ pub struct Listing<W> {
     written: io::Result<()>,
 }
 
+// Writes a line: its fixed words, and what stands behind them.
+fn write_line<W: Write>(out: &mut W, words: &[u8], rest: impl Display + Drop) -> io::Result<()> {
+    out.write_all(words)?;
+    writeln!(out, "{rest}")
+}
+
 impl<W: Write> Listing<W> {
     pub fn new(out: W) -> Self {
         Listing {
@@ -24,32 +29,31 @@ impl<W: Write> Listing<W> {
         }
     }
 
-    fn say(&mut self, line: impl Display + Drop) {
+    fn say(&mut self, words: &[u8], rest: impl Display + Drop) {
         if self.written.is_ok() {
-            self.written = writeln!(self.out, "{line}");
+            self.written = write_line(&mut self.out, words, rest);
         }
     }
 
     // The line of a session that is none.
     pub fn refuse_session(&mut self) {
-        self.say("session refused");
+        self.say(b"session refused", "");
     }
 
     // The line of a refused call.
-    pub fn refuse(&mut self, call: &str, outcome: Outcome) {
-        self.say(format_args!("{call} {}", number_of(outcome)));
+    pub fn refuse(&mut self, call: &[u8], reason: Refusal) {
+        self.say(call, format_args!(" {}", u32::from(reason)));
     }
 
     // The line of the answer to a call of a program of v variables.
-    pub fn answer(&mut self, call: &str, answer: &Answer, v: usize)
+    pub fn answer(&mut self, call: &[u8], answer: Answer, v: usize)
         requires { v ≤ 32 }
     {
-        let outcome = answer.outcome;
-        match outcome {
-            Outcome::Refused(_) => self.refuse(call, outcome),
+        match answer.outcome {
+            Outcome::Refused(reason) => self.refuse(call, reason),
             Outcome::Accepted => {
                 let values = Words(&answer.values[..v]);
-                self.say(format_args!("{call} {}{}{values}", number_of(outcome), Counts(answer)));
+                self.say(call, format_args!(" 0{}{values}", Counts(answer)));
             }
         }
     }

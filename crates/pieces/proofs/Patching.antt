@@ -8,8 +8,8 @@ use lib.IntN.{ℤ}
 use Rattle.rules.specs.Outcome.{Outcome, accepted, refused, ◌>>=◌}
 use Rattle.rules.specs.Table.{types_of}
 use Rattle.rules.specs.Patch.{Snapshot, read_snapshot, moved_all}
-use Rattle.table.specs.Lists.{list_at}
 use Rattle.pieces.specs.Old.{part}
+use Rattle.table.specs.Lists.{list_at}
 use Rattle.pieces.specs.Snapshot.{Snapped, Standing, olds, MovedAs, Patched, patched, PatchedAs}
 use Rattle.pieces.specs.Unbroken.{Unbroken}
 use Rattle.pieces.specs.Laws.Snapshot.{ReadAt, read_at}

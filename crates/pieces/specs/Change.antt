@@ -1,11 +1,10 @@
 -- What the contracts of values and their changes say.
 -- Assumes nothing.
 use Rattle.std.specs.Prelude.{List, ℕ, ◌<◌, ℤ}
+use Rattle.std.specs.Prelude.{Option, Some, None}
 use Rattle.std.specs.Int.Signed.{mag}
 use Rattle.rules.specs.Outcome.{choose}
 use Rattle.rules.specs.Value.{Ty, in_type, plus, at}
-use Rattle.run.specs.declared.number.Computed.{Computed}
-use Rattle.run.specs.declared.number.Computed.TheVariants.{Is, Outside}
 
 -- a word whose sum with another, or difference from it, stays far inside 64 bits: values of a type and all changes are such
 abbrev pub Near : ℤ → Type 0
@@ -16,5 +15,5 @@ abbrev pub AllNear : List ℤ → Type 0
 AllNear words = (v : ℕ) → Near (at words v)
 
 -- the old value with its change, where it is a value of its type
-abbrev pub moved_as : Ty → ℤ → ℤ → Computed
-moved_as t old change = choose (in_type t (plus t old change)) (Is (plus t old change)) Outside
+abbrev pub moved_as : Ty → ℤ → ℤ → Option ℤ
+moved_as t old change = choose (in_type t (plus t old change)) (Some (plus t old change)) None

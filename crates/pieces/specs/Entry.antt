@@ -1,18 +1,17 @@
 -- What the contracts of entries say, by the definitions of `meet` and of the skip rule; and what is known of a walk wherever it stands.
 -- Assumes nothing.
-use Rattle.std.specs.Prelude.{◌≡◌, Bool, true, List, [], ℕ, ◌+◌, ◌-◌, ◌*◌, ◌≤◌, eqb, length, ℤ}
+use Rattle.std.specs.Prelude.{◌≡◌, Bool, true, List, [], ℕ, ◌+◌, ◌-◌, ◌*◌, ◌≤◌, eqb, length, ℤ, Result}
 use Rattle.numbers.specs.Lay.{lay}
-use Rattle.rules.specs.Outcome.{accepted, refused, choose, broken}
+use Rattle.rules.specs.Outcome.{choose}
 use Rattle.rules.specs.Outcome as Paper
 use Rattle.rules.specs.Patch.{Entry, Visited, Walked, steps_of, skipped}
 use Rattle.rules.proofs.Laws.Size.{weight}
-use Rattle.table.specs.Paper.{refusal_for}
-use Rattle.table.specs.declared.answer.Outcome.TheVariants.{Accepted, Refused}
+use Rattle.table.specs.Agrees.{Agrees}
+use Rattle.table.specs.declared.answer.Refusal.{Refusal}
 use Rattle.run.specs.Code.{farthest}
 use Rattle.pieces.specs.Change.{AllNear}
 use Rattle.pieces.specs.Old.{part, Inside}
 use Rattle.pieces.specs.declared.entry.Met.{Met}
-use Rattle.pieces.specs.declared.entry.Met.TheVariants.{Is, Broken}
 use Rattle.pieces.specs.declared.entry.Reached.{Reached}
 
 -- ---- an entry met
@@ -21,28 +20,25 @@ use Rattle.pieces.specs.declared.entry.Reached.{Reached}
 abbrev pub ends_at : Bool → ℕ → ℕ → Bool
 ends_at last stop end = choose last (eqb stop end) true
 
-pub record MetAt (e : Entry) (r : Met) (old : List ℤ) (from end : ℕ) : Type 0 where
-  pub stop : ℕ
-  pub is : r ≡ Is stop e.steps
-  pub opens : from + 3 ≤ stop
-  pub inside : stop ≤ end
-  pub words : e.words ≡ part old from stop
-  pub parts : e.parts ≡ part old (from + 3) stop
-  pub behind : e.behind ≡ part old stop end
+pub record MetAt (old : List ℤ) (from end : ℕ) (e : Entry) (r : Met) : Type 0 where
+  pub steps : r.steps ≡ e.steps
+  pub opens : from + 3 ≤ r.stop
+  pub inside : r.stop ≤ end
+  pub words : e.words ≡ part old from r.stop
+  pub parts : e.parts ≡ part old (from + 3) r.stop
+  pub behind : e.behind ≡ part old r.stop end
   pub some : 1 ≤ e.steps
   pub most : e.steps ≤ 1_000_000
 
-abbrev pub MetAs : Paper.Outcome Entry → Met → List ℤ → ℕ → ℕ → Type 0
-MetAs (accepted e) r old from end = MetAt e r old from end
-MetAs (refused q) r old from end = (r ≡ Broken) × (q ≡ broken)
+abbrev pub MetAs : Paper.Outcome Entry → Result Met Refusal → List ℤ → ℕ → ℕ → Type 0
+MetAs m r old from end = Agrees (MetAt old from end) m r
 
 -- ---- where a walk stands
 
--- the walk goes on; its changes are near; what it may still lay down ends before the farthest place, with room for one more expression's
+-- the changes are near; what it may still lay down ends before the farthest place, with room for one more expression's
 -- record; and its steps are few.
 -- Words of the old record that are copied or patched move both places alike; only fresh steps move the new one alone.
 pub record Sound (old : List ℤ) (end : ℕ) (s : Reached) : Type 0 where
-  pub goes : s.outcome ≡ Accepted
   pub long : length s.changes.values ≡ 32
   pub near : AllNear s.changes.values
   pub inside : Inside old s.from end
@@ -61,20 +57,15 @@ pub record Came (v : Visited) (s r : Reached) (old : List ℤ) (end : ℕ) (out 
   pub ends : r.at ≡ s.at + length v.words
   pub lays : after ≡ lay out s.at v.words
 
--- P of the value that the walk comes to, or it is stopped for the reason
-abbrev pub Ends : {A : Type 0} → (A → Type 0) → Paper.Outcome A → Reached → Type 0
-Ends P (accepted a) r = P a
-Ends P (refused q) r = r.outcome ≡ Refused (refusal_for q)
-
-abbrev pub VisitAs : Paper.Outcome Visited → Reached → Reached → List ℤ → ℕ → List ℤ → List ℤ → Type 0
-VisitAs m s r old end out after = Ends (λ v. Came v s r old end out after) m r
+abbrev pub VisitAs : Paper.Outcome Visited → Reached → Result Reached Refusal → List ℤ → ℕ → List ℤ → List ℤ → Type 0
+VisitAs m s r old end out after = Agrees (λ v to. Came v s to old end out after) m r
 
 -- a walk through parts leaves nothing of the entry
 abbrev pub whole : Walked → Visited
 whole w = record { changes = w.changes; counts = w.counts; words = w.words; rest = [] }
 
-abbrev pub WalkAs : Paper.Outcome Walked → Reached → Reached → List ℤ → ℕ → List ℤ → List ℤ → Type 0
-WalkAs m s r old end out after = Ends (λ w. Came (whole w) s r old end out after) m r
+abbrev pub WalkAs : Paper.Outcome Walked → Reached → Result Reached Refusal → List ℤ → ℕ → List ℤ → List ℤ → Type 0
+WalkAs m s r old end out after = Agrees (λ w to. Came (whole w) s to old end out after) m r
 
 -- ---- an entry skipped
 
@@ -83,7 +74,7 @@ pub record Copied (old : List ℤ) (from stop at : ℕ) : Type 0 where
   pub inside : Inside old from stop
   pub place : at + (stop - from) ≤ farthest
 
-abbrev pub SkipsTo : List ℤ → ℕ → ℕ → Reached → Reached → List ℤ → List ℤ → Type 0
+abbrev pub SkipsTo : List ℤ → ℕ → ℕ → Reached → Result Reached Refusal → List ℤ → List ℤ → Type 0
 SkipsTo old stop steps s r out after = (end : ℕ) (e : Entry) → Inside old stop end → e.steps ≡ steps → e.words ≡ part old
     s.from stop → e.behind ≡ part old stop end
     → VisitAs (skipped e s.left s.changes.values) s r old end out after
@@ -98,7 +89,6 @@ pub record Steppable (s : Reached) : Type 0 where
 
 -- one step further, behind the three opening words
 pub record Stepped (s r : Reached) : Type 0 where
-  pub outcome : r.outcome ≡ s.outcome
   pub changes : r.changes ≡ s.changes
   pub left : r.left + 1 ≡ s.left
   pub walked : r.walked ≡ s.walked + 1
@@ -108,7 +98,6 @@ pub record Stepped (s r : Reached) : Type 0 where
 
 -- so many words further, in both records
 pub record AdvancedBy (count : ℕ) (s r : Reached) : Type 0 where
-  pub outcome : r.outcome ≡ s.outcome
   pub changes : r.changes ≡ s.changes
   pub left : r.left ≡ s.left
   pub walked : r.walked ≡ s.walked

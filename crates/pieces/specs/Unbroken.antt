@@ -1,4 +1,4 @@
--- What a truth says of an outcome that is accepted or broken: the code answers so for snapshots and headers.
+-- What a truth says of an outcome that is accepted or broken: the code answers so for snapshots and the heads of an if and a repeat.
 -- Assumes nothing.
 use Rattle.std.specs.Prelude.{◌≡◌, Bool, true, false}
 use Rattle.rules.specs.Outcome.{Outcome, accepted, refused, broken}

@@ -1,17 +1,17 @@
-// Entries of the old record: an entry met, and an entry skipped.
-ghost use Rattle.std.specs.Prelude.{◌≡◌, ◌+◌, ◌-◌, ◌<◌, ◌≤◌, length, take, drop};
+// Entries of the old record: an entry met, and an entry skipped. A place and an end in the record become one reader when the
+// record gets one, as document 01 names it for a later request.
+ghost use Rattle.std.specs.Prelude.{◌≡◌, ◌+◌, ◌<◌, ◌≤◌};
 ghost use Rattle.numbers.specs.Lay.{lay};
 ghost use Rattle.rules.specs.Patch;
 ghost use Rattle.run.specs.Code.{farthest};
 ghost use Rattle.pieces.specs.Old.{part, Inside};
-ghost use Rattle.table.specs.declared.answer.Outcome.TheVariants.{Refused};
 ghost use Rattle.pieces.specs.Entry.{ends_at, MetAs, Sound, SkipsTo, Steppable, Stepped, AdvancedBy, Copied};
 
-use run::input::{in_limits, limit_of};
-use table::answer::{Changes, Outcome, Refusal};
+use run::input::read_limit;
+use table::answer::{Changes, Refusal};
 
-// Where the walk has come to: its outcome, the changes, the steps that are left, those walked and those reused, the place in the
-// old record and the place behind the new words.
+// Where the walk has come to: the changes, the steps that are left, those walked and those reused, the place in the old record and
+// the place behind the new words.
 #[derive(Clone, Copy, Drop)]
 pub struct Reached {
     pub changes: Changes,
@@ -20,58 +20,41 @@ pub struct Reached {
     pub reused: usize,
     pub from: usize,
     pub at: usize,
-    pub outcome: Outcome,
 }
 
-// The walk stopped for a reason.
-pub fn stopped(reached: Reached, reason: Refusal) -> Reached
-    ensures { result.outcome ≡ Refused reason }
-{
-    let changes = reached.changes;
-    Reached {
-        changes,
-        left: reached.left,
-        walked: reached.walked,
-        reused: reached.reused,
-        from: reached.from,
-        at: reached.at,
-        outcome: Outcome::Refused(reason),
-    }
-}
-
-// An entry's end and its steps, or that it is broken.
-#[derive(Clone, Copy, Drop)]
-pub enum Met {
-    Is(usize, usize),
-    Broken,
+// An entry that is met: where it stops, and its steps.
+#[derive(Clone, Copy, Debug, PartialEq, Eq, Drop)]
+pub struct Met {
+    pub stop: usize,
+    pub steps: usize,
 }
 
 // The entry of a node at a place, by its three opening words; one that is a last part ends where its parent ends.
-pub fn meet(node: usize, last: bool, old: &[i64], from: usize, end: usize) -> Met
+pub fn meet(node: usize, last: bool, old: &[i64], from: usize, end: usize) -> Result<Met, Refusal>
     requires { Inside old.now from end × (node < 512) }
     ensures { MetAs (Patch.meet node last (part old.now from end)) result old.now from end }
 {
     if end - from < 3 {
-        return Met::Broken;
+        return Err(Refusal::Broken);
     }
     if old[from] != node as i64 {
-        return Met::Broken;
+        return Err(Refusal::Broken);
     }
     let size = old[from + 1];
     if size < 3 {
-        return Met::Broken;
+        return Err(Refusal::Broken);
     }
     if size > (end - from) as i64 {
-        return Met::Broken;
+        return Err(Refusal::Broken);
     }
     let stop = from + size as usize;
     if !ends(last, stop, end) {
-        return Met::Broken;
+        return Err(Refusal::Broken);
     }
-    if !in_limits(old[from + 2]) {
-        return Met::Broken;
-    }
-    Met::Is(stop, limit_of(old[from + 2]))
+    let Some(steps) = read_limit(old[from + 2]) else {
+        return Err(Refusal::Broken);
+    };
+    Ok(Met { stop, steps })
 }
 
 // Whether an entry that stops here may stand there: a last part stops at the end.
@@ -79,47 +62,35 @@ fn ends(last: bool, stop: usize, end: usize) -> bool
     requires { stop ≤ end }
     ensures { result ≡ ends_at last stop end }
 {
-    if last {
-        return stop == end;
-    }
-    true
+    !last || stop == end
 }
 
-// Lays down the old record's words from a place up to a stop as one run of words.
+// Lays down the old record's words from a place up to a stop as one run of words; what falls past the buffer's end is only counted.
 fn copy(old: &[i64], from: usize, stop: usize, out: &mut [i64], at: usize)
     requires { Copied old.now from stop at }
     ensures { out.new ≡ lay out.old at (part old.now from stop) }
 {
-    let mut count = stop - from;
-    if out.len() < at {
-        count = 0;
-    } else if out.len() - at < count {
-        count = out.len() - at;
-    }
-    let mut i = 0;
-    while i < count {
-        out[at + i] = old[from + i];
-        i += 1;
+    if at < out.len() {
+        let count = (stop - from).min(out.len() - at);
+        out[at..at + count].copy_from_slice(&old[from..from + count]);
     }
 }
 
 // The skip rule: the entry is copied, its steps go to reused, the changes pass through.
-pub fn skip(old: &[i64], stop: usize, steps: usize, reached: Reached, out: &mut [i64]) -> Reached
-    requires { Sound old.now stop reached }
-    ensures { SkipsTo old.now stop steps reached result out.old out.new }
+pub fn skip(old: &[i64], met: Met, reached: Reached, out: &mut [i64]) -> Result<Reached, Refusal>
+    requires { Sound old.now met.stop reached }
+    ensures { SkipsTo old.now met.stop met.steps reached result out.old out.new }
 {
-    if reached.left < steps {
-        return stopped(reached, Refusal::Fuel);
+    if reached.left < met.steps {
+        return Err(Refusal::Fuel);
     }
-    let from = reached.from;
-    let at = reached.at;
-    copy(old, from, stop, out, at);
+    copy(old, reached.from, met.stop, out, reached.at);
     let mut next = reached;
-    next.left -= steps;
-    next.reused += steps;
-    next.from = stop;
-    next.at += stop - from;
-    next
+    next.left -= met.steps;
+    next.reused += met.steps;
+    next.from = met.stop;
+    next.at += met.stop - reached.from;
+    Ok(next)
 }
 
 // The walk a step further, behind the three opening words of an entry.

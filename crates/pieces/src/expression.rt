@@ -1,94 +1,80 @@
 // Expressions: the change of the value, with the new record laid down from a place on. The old record and the new one are
 // equally long.
 ghost use Rattle.std.specs.Prelude.{◌≡◌, ◌+◌, ◌≤◌};
-ghost use Rattle.run.specs.Code.{Number, farthest, IsOperator};
+ghost use Rattle.rules.specs.Tree.{gives};
+ghost use Rattle.table.specs.Kinds.{paper_operator, paper_type};
+ghost use Rattle.run.specs.Code.{Number, farthest};
 ghost use Rattle.pieces.specs.Change.{Near};
 ghost use Rattle.pieces.specs.Old.{Inside};
-ghost use Rattle.pieces.specs.Expression.{Recalls, Gives, Operates, Settles, Shiftable, ShiftsTo, OperandTo};
-ghost use Rattle.rules.proofs.Laws.Parts.{node_at};
-ghost use Rattle.pieces.specs.declared.expression.Recalled.TheVariants.{Are};
+ghost use Rattle.pieces.specs.Expression.{Recalls, Settles, Shiftable, Operates, ShiftsTo, OperandTo};
 
 use crate::change::{minus, moved};
 use run::input::in_type;
-use run::number::{Computed, compute};
+use run::number::compute;
 use run::words::put;
-use table::access::{child_a, child_b, kind, tag};
 use table::answer::Refusal;
+use table::kind::{Kind, Operator, Type};
+use table::script::Checked;
 
-// A change, or an operand's new value, with the length of the record; or a refusal.
-#[derive(Clone, Copy, Drop)]
-pub enum Shifted {
-    Is(i64, usize),
-    Refused(Refusal),
+// An operator's old operands and its old result.
+#[derive(Clone, Copy, Debug, PartialEq, Eq, Drop)]
+pub struct Recalled {
+    pub left: i64,
+    pub right: i64,
+    pub result: i64,
 }
 
-// An operator's old operands and its old result, or that they are broken.
-#[derive(Clone, Copy, Drop)]
-pub enum Recalled {
-    Are(i64, i64, i64),
-    Broken,
-}
-
-// The old operands at a place, each in its type, and what the operator of this kind made of them.
-fn recall(kind: usize, old: &[i64], from: usize, end: usize) -> Recalled
+// The old operands at a place, each in its type, and what the operator made of them.
+fn recall(operator: Operator, old: &[i64], from: usize, end: usize) -> Result<Recalled, Refusal>
     requires { Inside old.now from end }
-    ensures { Recalls kind old.now from end result }
+    ensures { Recalls (paper_operator operator) old.now from end result }
 {
     if end < from + 2 {
-        return Recalled::Broken;
+        return Err(Refusal::Broken);
     }
-    let x = old[from];
-    let y = old[from + 1];
-    if !in_type(0, x) {
-        return Recalled::Broken;
+    let left = old[from];
+    let right = old[from + 1];
+    if !in_type(Type::Number, left) {
+        return Err(Refusal::Broken);
     }
-    if !in_type(0, y) {
-        return Recalled::Broken;
+    if !in_type(Type::Number, right) {
+        return Err(Refusal::Broken);
     }
-    let result = compute(kind, x, y);
-    let Computed::Is(z) = result else {
-        return Recalled::Broken;
+    let Some(result) = compute(operator, left, right) else {
+        return Err(Refusal::Broken);
     };
-    Recalled::Are(x, y, z)
+    Ok(Recalled {
+        left,
+        right,
+        result,
+    })
 }
 
-// The byte that names the type of what the operator of this kind gives.
-fn given(kind: usize) -> u8
-    ensures { Gives kind result }
-{
-    if kind < 7 {
-        return 0;
-    }
-    1
-}
-
-// Lays down an operator's new operands and answers with the change of its result.
+// Lays down an operator's new operands and answers with the change of its result, and the length of its record.
 fn settle(
-    kind: usize,
+    operator: Operator,
     x: i64,
     y: i64,
     was: i64,
     out: &mut [i64],
     at: usize,
     length: usize,
-) -> Shifted
-    requires { Operates kind × (Number x × (Number y × (Near was × (at + 2 ≤ farthest)))) }
-    ensures { Settles kind x y was out.old at length result out.new }
+) -> Result<(i64, usize), Refusal>
+    requires { Number x × (Number y × (Near was × (at + 2 ≤ farthest))) }
+    ensures { Settles (paper_operator operator) x y was out.old at length result out.new }
 {
     put(out, at, x);
     put(out, at + 1, y);
-    let result = compute(kind, x, y);
-    let Computed::Is(z) = result else {
-        return Shifted::Refused(Refusal::Range);
+    let Some(new) = compute(operator, x, y) else {
+        return Err(Refusal::Range);
     };
-    Shifted::Is(minus(given(kind), z, was), length)
+    Ok((minus(operator.gives(), new, was), length))
 }
 
-// The change of the expression at a node.
-#[cycle(operand_operate_shift)]
+// The change of the expression at a node, and the length of its record.
+#[cycle(expressions)]
 pub fn shift(
-    t: &[u8],
-    base: usize,
+    checked: &Checked,
     node: usize,
     changes: &[i64; 32],
     old: &[i64],
@@ -96,51 +82,46 @@ pub fn shift(
     end: usize,
     out: &mut [i64],
     at: usize,
-) -> Shifted
-    requires { Shiftable t.now base node changes.now old.now from end at }
-    ensures { ShiftsTo t.now node changes.now old.now from end result out.old at out.new }
+) -> Result<(i64, usize), Refusal>
+    requires { Shiftable checked.now node changes.now old.now from end at }
+    ensures { ShiftsTo checked.now node changes.now old.now from end result out.old at out.new }
 {
-    let place = base + 8 * node;
-    let k = kind(t, place);
-    if k < 3 {
-        return Shifted::Is(0, 0);
+    let top = checked.node(node);
+    match top.kind {
+        Kind::Variable => Ok((changes[top.tag], 0)),
+        Kind::Operator(operator) => {
+            let before = recall(operator, old, from, end)?;
+            operate(
+                checked, node, operator, before, changes, old, from, end, out, at,
+            )
+        }
+        _ => Ok((0, 0)),
     }
-    if k == 3 {
-        let v = tag(t, place);
-        return Shifted::Is(changes[v], 0);
-    }
-    let before = recall(k, old, from, end);
-    let Recalled::Are(x, y, z) = before else {
-        return Shifted::Refused(Refusal::Broken);
-    };
-    operate(t, base, node, x, y, z, changes, old, from, end, out, at)
 }
 
-// The change of an operator whose old operands and old result are known: left, then right, then the result.
-#[cycle(operand_operate_shift)]
+// The change of an operator whose old operands and old result are known: left, then right, then the result. Operands are taken apart by
+// let .. else, as document 01 names it.
+#[cycle(expressions)]
 fn operate(
-    t: &[u8],
-    base: usize,
+    checked: &Checked,
     node: usize,
-    x: i64,
-    y: i64,
-    was: i64,
+    operator: Operator,
+    before: Recalled,
     changes: &[i64; 32],
     old: &[i64],
     from: usize,
     end: usize,
     out: &mut [i64],
     at: usize,
-) -> Shifted
-    requires { Shiftable t.now base node changes.now old.now from end at × (IsOperator t.now node × Recalls (node_at t.now node).kind old.now from end (Are x y was)) }
-    ensures { ShiftsTo t.now node changes.now old.now from end result out.old at out.new }
+) -> Result<(i64, usize), Refusal>
+    requires { Operates checked.now node operator before changes.now old.now from end at }
+    ensures { ShiftsTo checked.now node changes.now old.now from end result out.old at out.new }
 {
-    let place = base + 8 * node;
+    let top = checked.node(node);
     let left = operand(
-        t,
-        base,
-        child_a(t, place),
-        x,
+        checked,
+        top.a,
+        before.left,
         changes,
         old,
         from + 2,
@@ -148,14 +129,13 @@ fn operate(
         out,
         at + 2,
     );
-    let Shifted::Is(a, m) = left else {
+    let Ok((x, m)) = left else {
         return left;
     };
     let right = operand(
-        t,
-        base,
-        child_b(t, place),
-        y,
+        checked,
+        top.b,
+        before.right,
         changes,
         old,
         from + 2 + m,
@@ -163,17 +143,16 @@ fn operate(
         out,
         at + 2 + m,
     );
-    let Shifted::Is(b, n) = right else {
+    let Ok((y, n)) = right else {
         return right;
     };
-    settle(kind(t, place), a, b, was, out, at, 2 + m + n)
+    settle(operator, x, y, before.result, out, at, 2 + m + n)
 }
 
-// An operand's new value: the old one with the change of the expression at a node.
-#[cycle(operand_operate_shift)]
+// An operand's new value, the old one with the change of the expression at a node, and the length of its record.
+#[cycle(expressions)]
 pub fn operand(
-    t: &[u8],
-    base: usize,
+    checked: &Checked,
     node: usize,
     was: i64,
     changes: &[i64; 32],
@@ -182,17 +161,16 @@ pub fn operand(
     end: usize,
     out: &mut [i64],
     at: usize,
-) -> Shifted
-    requires { Shiftable t.now base node changes.now old.now from end at × Number was }
-    ensures { OperandTo t.now node was changes.now old.now from end result out.old at out.new }
+) -> Result<(i64, usize), Refusal>
+    requires { Shiftable checked.now node changes.now old.now from end at × Number was }
+    ensures { OperandTo checked.now node was changes.now old.now from end result out.old at out.new }
 {
-    let shifted = shift(t, base, node, changes, old, from, end, out, at);
-    let Shifted::Is(change, length) = shifted else {
+    let shifted = shift(checked, node, changes, old, from, end, out, at);
+    let Ok((change, length)) = shifted else {
         return shifted;
     };
-    let new = moved(0, was, change);
-    let Computed::Is(z) = new else {
-        return Shifted::Refused(Refusal::Broken);
+    let Some(new) = moved(Type::Number, was, change) else {
+        return Err(Refusal::Broken);
     };
-    Shifted::Is(z, length)
+    Ok((new, length))
 }

@@ -1,16 +1,17 @@
 -- What the contracts of the public run and of its steps say, by the definition of the whole call.
 -- Assumes nothing.
-use Rattle.std.specs.Prelude.{◌≡◌, List, ℕ, ◌+◌, ◌*◌, ◌≤◌, length, take, ℤ, pos}
+use Rattle.std.specs.Prelude.{◌≡◌, List, ℕ, ◌+◌, ◌*◌, ◌≤◌, length, take, ℤ, pos, nat_abs, Option, Some, None, Result}
 use Rattle.numbers.specs.Signed.{between}
-use Rattle.rules.specs.Outcome.{accepted, ◌>>=◌, need, store_wrong, limit_wrong}
+use Rattle.rules.specs.Outcome.{accepted, ◌>>=◌, need, choose, store_wrong, limit_wrong}
 use Rattle.rules.specs.Outcome as Paper
 use Rattle.rules.specs.Value.{zeros, most_variables, padded, fit}
 use Rattle.rules.specs.Table.{Program, check}
 use Rattle.rules.specs.Patch.{all_fresh}
 use Rattle.rules.specs.Run.{Done, most_steps, record_of}
 use Rattle.rules.specs.Call.{Finished, answered, finish_run, within}
-use Rattle.table.specs.Paper.{answer_of, number_of}
-use Rattle.table.specs.declared.answer.Outcome.{Outcome}
+use Rattle.table.specs.Agrees.{Agrees}
+use Rattle.table.specs.Paper.{answer_of}
+use Rattle.table.specs.declared.answer.Refusal.{Refusal}
 use Rattle.table.specs.declared.answer.Answer.{Answer}
 use Rattle.run.specs.declared.statement.Ran.{Ran}
 use Rattle.run.specs.Code.{farthest}
@@ -28,13 +29,17 @@ tests bytes inputs limit = do
   _ ← need (between (pos 1) most_steps limit) limit_wrong
   accepted p
 
-abbrev pub Tested : List ℕ → List ℤ → ℤ → Outcome → Type 0
-Tested bytes inputs limit r = number_of r ≡ Paper.number_of (tests bytes inputs limit)
+-- the limit as a count, where it is one that a call may have
+abbrev pub limited : ℤ → Option ℕ
+limited limit = choose (between (pos 1) most_steps limit) (Some (nat_abs limit)) None
 
--- they are passed
-pub record Startable (bytes : List ℕ) (inputs : List ℤ) (limit : ℤ) : Type 0 where
+abbrev pub Tested : List ℕ → List ℤ → ℤ → Result ℕ Refusal → Type 0
+Tested bytes inputs limit r = Agrees (λ _ most. most ≡ nat_abs limit) (tests bytes inputs limit) r
+
+-- they are passed with this limit, as a count
+pub record Startable (bytes : List ℕ) (inputs : List ℤ) (limit : ℕ) : Type 0 where
   pub program : Program
-  pub passed : tests bytes inputs limit ≡ accepted program
+  pub passed : tests bytes inputs (pos limit) ≡ accepted program
 
 -- what a run that came to its end finishes with
 abbrev pub finished : ℕ → List ℤ → ℕ → Done → Finished
@@ -46,20 +51,19 @@ finished v inputs limit d = record {
 }
 
 -- the root's entry stands behind the place of the header, and the record has room
-pub record Completable (v : ℕ) (inputs : List ℤ) (limit : ℕ) (ran : Ran) (out : List ℤ) : Type 0 where
-  pub few : v ≤ 32
-  pub each : length inputs ≡ v
+pub record Completable (inputs : List ℤ) (limit : ℕ) (ran : Ran) (out : List ℤ) : Type 0 where
+  pub few : length inputs ≤ 32
   pub long : length ran.store.values ≡ 32
   pub low : limit ≤ 1_000_000
   pub least : ran.left ≤ limit
   pub near : ran.at ≤ farthest
-  pub behind : 3 + 2 * v ≤ ran.at
+  pub behind : 3 + 2 * length inputs ≤ ran.at
   pub room : ran.at ≤ length out
 
-abbrev pub CompletesTo : ℕ → List ℤ → ℕ → Ran → List ℤ → Answer → List ℤ → Type 0
-CompletesTo v inputs limit ran now r after = (d : Done) (out : List ℤ) → EndedAs d ran out limit (3 + 2 * v) now → Answers (length now)
-    (accepted (finished v inputs limit d)) r after
+abbrev pub CompletesTo : List ℤ → ℕ → Ran → List ℤ → Answer → List ℤ → Type 0
+CompletesTo inputs limit ran now r after = (d : Done) (out : List ℤ) → EndedAs out limit (3 + 2 * length inputs) now d ran → Answers (length now)
+    (accepted (finished (length inputs) inputs limit d)) r after
 
--- the whole run, in so much room
-abbrev pub RunAnswers : List ℕ → List ℤ → ℤ → ℕ → Answer → List ℤ → Type 0
-RunAnswers bytes inputs limit room r after = Answers room (finish_run bytes inputs limit >>= within room) r after
+-- the whole run, in so much room, but for the buffer of a refused one
+abbrev pub RunAnswers : List ℕ → List ℤ → ℤ → ℕ → Result Answer Refusal → List ℤ → Type 0
+RunAnswers bytes inputs limit room r after = Agrees (λ f a. Answers room (accepted f) a after) (finish_run bytes inputs limit >>= within room) r

@@ -1,82 +1,77 @@
 // Expressions: the value, with the record laid down from a place on.
 ghost use Rattle.std.specs.Prelude.{◌≡◌, ◌+◌, ◌≤◌};
-ghost use Rattle.run.specs.Code.{Number, farthest, Finishes, Evaluable, EvaluatesTo, IsOperator};
+ghost use Rattle.table.specs.Kinds.{paper_operator};
+ghost use Rattle.run.specs.Code.{Number, farthest, Finishes, Evaluable, EvaluatesTo, Operates};
 
-use crate::number::{Computed, compute};
+use crate::number::compute;
 use crate::words::put;
-use table::access::{child_a, child_b, constant, kind, tag};
 use table::answer::Refusal;
+use table::kind::{Kind, Operator};
+use table::script::Checked;
 
-// A value with the place behind its record, or a refusal.
-#[derive(Clone, Copy, Drop)]
-pub enum Evaluated {
-    Is(i64, usize),
-    Refused(Refusal),
-}
-
-// Lays down an operator's two operands and answers with its result; its record ends at `end`.
-fn finish(kind: usize, x: i64, y: i64, out: &mut [i64], at: usize, end: usize) -> Evaluated
+// Lays down an operator's two operands and answers with its result and where its record ends.
+fn finish(
+    operator: Operator,
+    x: i64,
+    y: i64,
+    out: &mut [i64],
+    at: usize,
+    end: usize,
+) -> Result<(i64, usize), Refusal>
     requires { Number x × (Number y × (at + 2 ≤ farthest)) }
-    ensures { Finishes kind x y out.old at end result out.new }
+    ensures { Finishes (paper_operator operator) x y out.old at end result out.new }
 {
     put(out, at, x);
     put(out, at + 1, y);
-    let result = compute(kind, x, y);
-    let Computed::Is(z) = result else {
-        return Evaluated::Refused(Refusal::Range);
+    let Some(z) = compute(operator, x, y) else {
+        return Err(Refusal::Range);
     };
-    Evaluated::Is(z, end)
+    Ok((z, end))
 }
 
-// The value of the expression at a node.
-#[cycle(evaluate_operate)]
+// The value of the expression at a node, and the place behind its record.
+#[cycle(expressions)]
 pub fn evaluate(
-    t: &[u8],
-    base: usize,
+    checked: &Checked,
     node: usize,
     values: &[i64; 32],
     out: &mut [i64],
     at: usize,
-) -> Evaluated
-    requires { Evaluable t.now base node values.now at }
-    ensures { EvaluatesTo t.now node values.now result out.old at out.new }
+) -> Result<(i64, usize), Refusal>
+    requires { Evaluable checked.now node values.now at }
+    ensures { EvaluatesTo checked.now node values.now result out.old at out.new }
 {
-    let place = base + 8 * node;
-    let k = kind(t, place);
-    if k == 1 {
-        return Evaluated::Is(constant(t, place), at);
+    let top = checked.node(node);
+    match top.kind {
+        Kind::NumberConstant => Ok((checked.constant(node), at)),
+        Kind::TruthConstant => Ok((top.tag as i64, at)),
+        Kind::Variable => Ok((values[top.tag], at)),
+        Kind::Operator(operator) => operate(checked, node, operator, values, out, at),
+        _ => unreachable!(),
     }
-    if k == 2 {
-        return Evaluated::Is(tag(t, place) as i64, at);
-    }
-    if k == 3 {
-        let v = tag(t, place);
-        return Evaluated::Is(values[v], at);
-    }
-    operate(t, base, node, values, out, at)
 }
 
-// The value of an operator: left, then right, then the result.
-#[cycle(evaluate_operate)]
+// The value of an operator: left, then right, then the result. Operands are taken apart by let .. else, as document 01 names it.
+#[cycle(expressions)]
 fn operate(
-    t: &[u8],
-    base: usize,
+    checked: &Checked,
     node: usize,
+    operator: Operator,
     values: &[i64; 32],
     out: &mut [i64],
     at: usize,
-) -> Evaluated
-    requires { Evaluable t.now base node values.now at × IsOperator t.now node }
-    ensures { EvaluatesTo t.now node values.now result out.old at out.new }
+) -> Result<(i64, usize), Refusal>
+    requires { Operates checked.now node operator values.now at }
+    ensures { EvaluatesTo checked.now node values.now result out.old at out.new }
 {
-    let place = base + 8 * node;
-    let left = evaluate(t, base, child_a(t, place), values, out, at + 2);
-    let Evaluated::Is(x, behind) = left else {
+    let top = checked.node(node);
+    let left = evaluate(checked, top.a, values, out, at + 2);
+    let Ok((x, behind)) = left else {
         return left;
     };
-    let right = evaluate(t, base, child_b(t, place), values, out, behind);
-    let Evaluated::Is(y, end) = right else {
+    let right = evaluate(checked, top.b, values, out, behind);
+    let Ok((y, end)) = right else {
         return right;
     };
-    finish(kind(t, place), x, y, out, at, end)
+    finish(operator, x, y, out, at, end)
 }

@@ -1,58 +1,36 @@
 // Operators on numbers of the 32-bit range.
-ghost use Rattle.std.specs.Prelude.{◌≡◌, true, ℤ, ◌<◌, ◌^◌};
-ghost use Rattle.std.specs.Int.Signed.{mag};
-ghost use Rattle.rules.specs.Value.{in_type};
-ghost use Rattle.rules.specs.Tree.{Operator};
-ghost use Rattle.run.specs.Code.{Number, Applies, Computes};
+ghost use Rattle.std.specs.Prelude.{◌≡◌};
+ghost use Rattle.rules.specs.Tree;
+ghost use Rattle.table.specs.Kinds.{paper_operator};
+ghost use Rattle.run.specs.Code.{Number, computed_as};
 
-// A test's answer as a truth.
-fn truth(holds: bool) -> i64
-    ensures { result ≡ Rattle.rules.specs.Value.bit holds }
-{
-    if holds {
-        return 1;
-    }
-    0
-}
+use table::kind::Operator;
 
-// What the operator of this kind gives, in 64 bits.
-fn apply(kind: usize, x: i64, y: i64) -> i64
+// What an operator gives, in 64 bits; a test's answer is a truth, 0 or 1.
+fn apply(operator: Operator, x: i64, y: i64) -> i64
     requires { Number x × Number y }
-    ensures { Applies kind x y result }
+    ensures { result ≡ Tree.apply (paper_operator operator) x y }
 {
-    if kind == 4 {
-        return x + y;
+    match operator {
+        Operator::Add => x + y,
+        Operator::Subtract => x - y,
+        Operator::Multiply => x * y,
+        Operator::Greater => i64::from(y < x),
+        Operator::Equal => i64::from(x == y),
     }
-    if kind == 5 {
-        return x - y;
-    }
-    if kind == 6 {
-        return x * y;
-    }
-    if kind == 7 {
-        return truth(y < x);
-    }
-    truth(x == y)
 }
 
-// An operator's result, or that it is no value of its type.
-#[derive(Clone, Copy, Drop)]
-pub enum Computed {
-    Is(i64),
-    Outside,
-}
-
-// What the operator of this kind makes of two numbers.
-pub fn compute(kind: usize, x: i64, y: i64) -> Computed
+// What an operator makes of two numbers, where that is a value of its type.
+pub fn compute(operator: Operator, x: i64, y: i64) -> Option<i64>
     requires { Number x × Number y }
-    ensures { Computes kind x y result }
+    ensures { result ≡ computed_as (paper_operator operator) x y }
 {
-    let z = apply(kind, x, y);
+    let z = apply(operator, x, y);
     if z < -2147483648 {
-        return Computed::Outside;
+        return None;
     }
     if 2147483647 < z {
-        return Computed::Outside;
+        return None;
     }
-    Computed::Is(z)
+    Some(z)
 }

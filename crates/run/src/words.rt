@@ -1,12 +1,13 @@
-// Words of a record, laid down in the lent buffer: what falls past its end is only counted.
+// Words of a record, laid down in the lent buffer: what falls past its end is only counted. A place is passed and not held by a writer: an
+// entry's opening words, its operands and its later snapshot stand before words that are laid first.
 ghost use Rattle.std.specs.Prelude.{◌≡◌, ◌++◌, ◌+◌, ◌-◌, ◌≤◌, length, take, set};
 ghost use Rattle.numbers.specs.Lay.{lay};
 ghost use Rattle.rules.specs.Value.{snapshot, zeros};
 ghost use Rattle.table.specs.Lists.{list_at};
 ghost use Rattle.run.specs.Code.{farthest};
-ghost use Rattle.run.specs.Words.{Listed, Held};
+ghost use Rattle.run.specs.Words.{Listed};
 
-use table::access::wide;
+use table::mentioned::Mentioned;
 
 // One word at a place.
 pub fn put(out: &mut [i64], at: usize, word: i64)
@@ -19,23 +20,21 @@ pub fn put(out: &mut [i64], at: usize, word: i64)
 
 // The snapshot of a node's variables from a place on; returns the place behind it.
 pub fn snapshot(
-    lists: &[u8; 16896],
+    lists: &Mentioned,
     node: usize,
     values: &[i64; 32],
     out: &mut [i64],
     at: usize,
 ) -> usize
-    requires { Listed lists.now node at }
-    ensures laid { out.new ≡ lay out.old at (snapshot (list_at lists.now node) values.now) }
-    ensures behind { result ≡ at + length (list_at lists.now node) }
+    requires { Listed lists.now.lists node at }
+    ensures laid { out.new ≡ lay out.old at (snapshot (list_at lists.now.lists node) values.now) }
+    ensures behind { result ≡ at + length (list_at lists.now.lists node) }
 {
-    let first = 33 * node;
-    let count = wide(lists[first]);
-    for i in 0..count {
-        let v = wide(lists[first + 1 + i]);
-        put(out, at + i, values[v]);
+    let variables = lists.of(node);
+    for (i, &v) in variables.iter().enumerate() {
+        put(out, at + i, values[usize::from(v)]);
     }
-    at + count
+    at + variables.len()
 }
 
 // All words of a slice from a place on; returns the place behind them.
@@ -44,35 +43,17 @@ pub fn lay_slice(out: &mut [i64], at: usize, from: &[i64]) -> usize
     ensures laid { out.new ≡ lay out.old at from.now }
     ensures behind { result ≡ at + length from.now }
 {
-    let mut i = 0;
-    while i < from.len() {
-        put(out, at + i, from[i]);
-        i += 1;
+    for (i, &word) in from.iter().enumerate() {
+        put(out, at + i, word);
     }
-    at + i
-}
-
-// The first n of 32 words from a place on; returns the place behind them.
-pub fn lay_values(out: &mut [i64], at: usize, values: &[i64; 32], n: usize) -> usize
-    requires { Held values.now n at }
-    ensures laid { out.new ≡ lay out.old at (take n values.now) }
-    ensures behind { result ≡ at + n }
-{
-    let mut i = 0;
-    while i < n {
-        put(out, at + i, values[i]);
-        i += 1;
-    }
-    at + n
+    at + from.len()
 }
 
 // Zeros from a place to the end.
 pub fn clear(out: &mut [i64], from: usize)
     ensures { out.new ≡ take from out.old ++ zeros (length out.old - from) }
 {
-    let mut i = from;
-    while i < out.len() {
-        out[i] = 0;
-        i += 1;
+    if from < out.len() {
+        out[from..].fill(0);
     }
 }

@@ -1,11 +1,10 @@
 -- An answer's 72 words, laid down part by part: head, values and changes fill them, and each count that is a word is read back as it is.
 -- What a reader of the header file counts on: there are 72 words, and the number that a call returns is the first.
 -- Assumes nothing.
-use Rattle.std.specs.Prelude.{◌≡◌, ℕ, ◌+◌, ◌<◌, length, get_or, take, ℤ, pos}
+use Rattle.std.specs.Prelude.{◌≡◌, ℕ, ◌+◌, ◌<◌, length, get_or, ℤ, pos}
 use Rattle.std.proofs.Math.Path.{refl, ap}
 use Rattle.std.proofs.Common.{sym, ◌∙◌, subst, arith, length-append, to_z}
 use mathlib.Core.List.{List, [], ◌∷◌, ◌++◌}
-use Rattle.std.proofs.Math.Seq.{take_all}
 use mir.Syntax.{w64}
 use mir.ValLaws.{to_z_pos}
 use Rattle.numbers.specs.Lay.{lay, lay_append, lay_to_end}
@@ -44,14 +43,13 @@ module _ {a : Answer} (small : Tellable a) {number : ℕ} (is : number ≡ a.num
 
   -- the three parts, laid one after the other
   pub laid_is : (out : List ℤ) {one two three : List ℤ} → length out ≡ 72 → length a.values ≡ 32 → length a.changes ≡ 32
-      → one ≡ lay out 0 (head_bits number a) → two ≡ lay one 8 (take 32 a.values) → three ≡ lay two 40 (take 32 a.changes)
+      → one ≡ lay out 0 (head_bits number a) → two ≡ lay one 8 a.values → three ≡ lay two 40 a.changes
       → three ≡ answer_words a
   unfolding answer_words head_words
   laid_is out long lv lc e f g =
       g
-      ∙ ap (λ (l : List ℤ). lay l 40 (take 32 a.changes)) (f ∙ ap (λ (l : List ℤ). lay l 8 (take 32 a.values)) (e ∙ ap (lay out 0) head_is))
-      ∙ rw (take_all 32 a.values (omega (arith, lv)), take_all 32 a.changes (omega (arith, lc)))
-      (filled out (head_words a) a.values a.changes 8 32 refl lv (omega (arith, long, lc)))
+      ∙ ap (λ (l : List ℤ). lay l 40 a.changes) (f ∙ ap (λ (l : List ℤ). lay l 8 a.values) (e ∙ ap (lay out 0) head_is))
+      ∙ filled out (head_words a) a.values a.changes 8 32 refl lv (omega (arith, long, lc))
 
 -- ---- a call that meets its contract, and whose answer's words are told
 

@@ -9,14 +9,14 @@ ghost use Rattle.simazokwa.specs.Words.{RunTold, PatchTold};
 use crate::words::tell;
 use patch::call::patch;
 use run::call::run;
+use table::answer::Outcome;
 use table::check::check;
-use table::paper::number_of;
 
 // The number of the table check: 0 when accepted, else 1 to 5.
 pub fn simazokwa_check(table: &[u8]) -> u32
     ensures { IsCheck table.now result }
 {
-    number_of(check(table))
+    u32::from(Outcome::from(check(table)))
 }
 
 // The run: its number, its answer's words, and its record in the lent buffer.

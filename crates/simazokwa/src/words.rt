@@ -3,9 +3,8 @@ ghost use Rattle.std.specs.Prelude.{◌≡◌};
 ghost use Rattle.table.specs.Paper.{answer_of, number_of};
 ghost use Rattle.simazokwa.specs.Words.{answer_words, Tellable};
 
-use run::words::{lay_slice, lay_values};
+use run::words::lay_slice;
 use table::answer::Answer;
-use table::paper::number_of;
 
 // Lays an answer's words down; returns its number. Word 1 is kept for the place of a refusal, and word 7 is free.
 pub fn tell(words: &mut [i64; 72], made: Answer) -> u32
@@ -13,7 +12,7 @@ pub fn tell(words: &mut [i64; 72], made: Answer) -> u32
     ensures number { result ≡ number_of made.outcome }
     ensures laid { words.new ≡ answer_words (answer_of made) }
 {
-    let number = number_of(made.outcome);
+    let number = u32::from(made.outcome);
     let head = [
         number as i64,
         0,
@@ -25,7 +24,7 @@ pub fn tell(words: &mut [i64; 72], made: Answer) -> u32
         0,
     ];
     lay_slice(words, 0, &head);
-    lay_values(words, 8, &made.values, 32);
-    lay_values(words, 40, &made.changes, 32);
+    lay_slice(words, 8, &made.values);
+    lay_slice(words, 40, &made.changes);
     number
 }

@@ -1,10 +1,11 @@
 pub mod Lists
 pub mod Row
+pub mod Kinds
+pub mod Reading
 pub mod Nodes
-pub mod Sorts
-pub mod Made
 pub mod Tests
 pub mod Types
+pub mod Made
 pub mod Reached
 pub mod Uses
 pub mod Check

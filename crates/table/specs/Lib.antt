@@ -1,9 +1,11 @@
+pub mod Kinds
 pub mod Paper
+pub mod Agrees
 pub mod Sorts
 pub mod Told
 pub mod Uses
-pub mod Laws
 pub mod Lists
 pub mod Accepted
 pub mod Rows
+pub mod Laws
 pub mod Listing

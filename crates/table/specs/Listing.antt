@@ -1,19 +1,19 @@
 -- The lists are made in rising node order: what holds once the nodes below n have theirs (`Made`), what the inner functions ask
--- (`Children`, `Placed`, `Ready`), and that the flags which a node's children and its own variable set are those of its variables.
+-- (`Children`, `Ready`), and that the flags which a node's children and its own variable set are those of its variables.
 -- Assumes nothing.
-use Rattle.std.specs.Prelude.{◌≡◌, ℕ, zero, suc, ◌+◌, ◌*◌, ◌≤◌, ◌<◌, Bool, true, false, ◌⊎◌, length, take, set, replicate}
+use Rattle.std.specs.Prelude.{◌≡◌, ℕ, suc, ◌+◌, ◌*◌, ◌≤◌, ◌<◌, Bool, true, false, ◌⊎◌, length, take, set, replicate}
 use Rattle.std.proofs.Math.Path.{sym, ap}
-use Rattle.std.proofs.Common.{◌∙◌, subst, arith, eq-or-lt_of_le, inl, inr, length-take-le, drop-cons}
+use Rattle.std.proofs.Common.{◌∙◌, subst, arith, eq-or-lt_of_le, inl, inr, drop-cons}
 use Rattle.std.proofs.Math.Option.{some}
-use mathlib.Core.List.{List}
+use mathlib.Core.List.{List, [], ◌∷◌}
 use Rattle.std.proofs.Math.ListN.{get_or, drop}
-use Rattle.std.proofs.Math.Seq.{get_or-take, drop-length}
-use Rattle.rules.specs.Table.{byte, u16, variables, nodes, types_of, Part}
+use Rattle.std.proofs.Math.Seq.{drop-length}
+use Rattle.rules.specs.Table.{byte, variables, nodes, types_of, Node, Part}
 use Rattle.rules.specs.Tree.{insert}
-use Rattle.rules.proofs.Laws.Parts.{part_at, part_below}
+use Rattle.rules.proofs.Laws.Parts.{part_at, node_at, part_below}
 use Rattle.rules.proofs.Laws.Header.{Sized, sized, types_long}
 use Rattle.rules.proofs.Laws.Rising.{rising, rising_first, flagged, flagged_by, together, length_flagged_by, rising_together, insert_rising, Below, rises_below, rises_short}
-use Rattle.rules.proofs.Laws.Variables.{vars_at, vars_at_lem, rises_node, place_of, fields, places, names, with_own, Mentioning, mentioning}
+use Rattle.rules.proofs.Laws.Variables.{vars_at, vars_at_lem, rises_node, node_kind, node_tag, node_fields, place_of, fields, places, names, with_own, mentioning}
 use Rattle.table.specs.Accepted.{AcceptedTable}
 use Rattle.table.specs.Lists.{list_at, Row, ListOf, Lists}
 use Rattle.table.specs.Laws.Row.{list_long, list_at_lem}
@@ -32,16 +32,9 @@ pub record Made (bytes lists : List ℕ) (n : ℕ) : Type 0 where
   pub long : length lists ≡ 16896
   pub upto : Upto bytes lists n
 
--- a node's children, whose lists are read, in the three fields of the bytes at a place
-pub record Children (t lists : List ℕ) (at count : ℕ) : Type 0 where
-  pub inside : at + 8 ≤ length t
-  pub few : count ≤ 3
-  pub rows : (j : ℕ) → j < count → Row 32 lists (get_or (fields t at) j 0)
-
--- the bytes of node n are there
-pub record Placed (bytes : List ℕ) (n : ℕ) : Type 0 where
-  pub inside : place_of bytes n + 8 ≤ length bytes
-  pub below : n < 512
+-- a node's children, whose lists are read
+abbrev pub Children : List ℕ → List ℕ → Type 0
+Children lists children = (j : ℕ) → j < length children → Row 32 lists (get_or children j 0)
 
 -- node n of an accepted table is next
 pub record Ready (bytes lists : List ℕ) (n : ℕ) : Type 0 where
@@ -49,31 +42,22 @@ pub record Ready (bytes lists : List ℕ) (n : ℕ) : Type 0 where
   pub inside : n < nodes bytes
   pub made : Made bytes lists n
 
+-- what node n mentions, by the node: its kind says how many of its fields are children and whether it names a variable
+pub record NodeMentions (bytes : List ℕ) (n : ℕ) (x : Node) : Type 0 where
+  lower : Below n (take (get_or places x.kind 0) (x.a ∷ x.b ∷ x.c ∷ []))
+  own : names x.kind ≡ true → x.tag < length (types_of bytes)
+  all : vars_at bytes n ≡ with_own (names x.kind) x.tag (together (vars_at bytes) (take (get_or places x.kind 0) (x.a ∷ x.b ∷ x.c ∷ [])))
+
 -- ---- the children, from the last to the first
 
-module _ (vars : ℕ → List ℕ) (t : List ℕ) (at count : ℕ) (few : count ≤ 3) (fs : List Bool) where
-  long_fields : length (take count (fields t at)) ≡ count
-  long_fields = length-take-le count (fields t at) few
-
-  pub field_at : (j : ℕ) → j < count → get_or (fields t at) j 0 ≡ u16 t (at + 2 + 2 * j)
-  field_at zero h = ap (u16 t) (omega arith)
-  field_at (suc zero) h = ap (u16 t) (omega arith)
-  field_at (suc (suc zero)) h = ap (u16 t) (omega arith)
-  field_at (suc (suc (suc j))) h = absurd (omega arith)
-
-  pub no_child : fs ≡ flagged_by vars (drop count (take count (fields t at))) fs
+module _ (vars : ℕ → List ℕ) (cs : List ℕ) (fs : List Bool) where
+  pub no_child : fs ≡ flagged_by vars (drop (length cs) cs) fs
   unfolding flagged_by
-  no_child = ap (λ (cs : List ℕ). flagged_by vars cs fs)
-      (sym (ap (λ (k : ℕ). drop k (take count (fields t at))) (sym long_fields) ∙ drop-length (take count (fields t at))))
+  no_child = ap (λ (l : List ℕ). flagged_by vars l fs) (sym (drop-length cs))
 
-  pub next_child : (j : ℕ) → j < count
-      → flagged (flagged_by vars (drop (suc j) (take count (fields t at))) fs) (vars (u16 t (at + 2 + 2 * j)))
-      ≡ flagged_by vars (drop j (take count (fields t at))) fs
+  pub next_child : (j : ℕ) → j < length cs → flagged (flagged_by vars (drop (suc j) cs) fs) (vars (get_or cs j 0)) ≡ flagged_by vars (drop j cs) fs
   unfolding flagged_by
-  next_child j h =
-      let field : get_or (take count (fields t at)) j 0 ≡ u16 t (at + 2 + 2 * j) = get_or-take count (fields t at) j 0 h ∙ field_at j h in
-      sym (ap (λ (cs : List ℕ). flagged_by vars cs fs) (drop-cons (take count (fields t at)) j 0 (rw long_fields h))
-      ∙ ap (λ (c : ℕ). flagged (flagged_by vars (drop (suc j) (take count (fields t at))) fs) (vars c)) field)
+  next_child j h = sym (ap (λ (l : List ℕ). flagged_by vars l fs) (drop-cons cs j 0 h))
 
 -- ---- an accepted table
 
@@ -151,64 +135,54 @@ module _ (bytes : List ℕ) (table : AcceptedTable bytes) where
 
 -- what the next node is made of
 module _ (bytes lists : List ℕ) (n : ℕ) (ready : Ready bytes lists n) where
-  -- its kind, its tag and its children
-  abbrev kind : ℕ
-  kind = byte bytes (place_of bytes n)
-
-  abbrev tag : ℕ
-  tag = byte bytes (place_of bytes n + 1)
-
-  abbrev children : List ℕ
-  children = take (get_or places kind 0) (fields bytes (place_of bytes n))
-
-  abbrev flags : List Bool
-  flags = flagged_by (list_at lists) children (replicate 32 false)
-
   pub size : Sized bytes
   size = sized bytes ready.table.0 ready.table.1
 
-  pub next_mentions : Mentioning bytes ready.table.0 ready.table.1 n
-  next_mentions = mentioning bytes ready.table.0 ready.table.1 n ready.inside
+  module _ (x : Node) (x_is : x ≡ node_at bytes n) where
+    -- its children
+    abbrev pub children : List ℕ
+    children = take (get_or places x.kind 0) (x.a ∷ x.b ∷ x.c ∷ [])
 
-  -- its eight bytes are in the table
-  pub next_inside : place_of bytes n + 8 ≤ length bytes
-  unfolding place_of
-  next_inside = let w = size in let h = ready.inside in omega (arith, w.whole)
+    abbrev flags : List Bool
+    flags = flagged_by (list_at lists) children (replicate 32 false)
 
-  pub next_placed : Placed bytes n
-  next_placed = record { inside = next_inside; below = omega (arith, size.small, ready.inside) }
+    pub next_mentions : NodeMentions bytes n x
+    next_mentions =
+        let m = mentioning bytes ready.table.0 ready.table.1 n ready.inside in
+        let kind_is : byte bytes (place_of bytes n) ≡ x.kind = sym (ap (λ (y : Node). y.kind) x_is ∙ node_kind bytes n) in
+        let tag_is : byte bytes (place_of bytes n + 1) ≡ x.tag = sym (ap (λ (y : Node). y.tag) x_is ∙ node_tag bytes n) in
+        let fields_are : fields bytes (place_of bytes n) ≡ x.a ∷ x.b ∷ x.c ∷ [] = sym (ap (λ (y : Node). y.a ∷ y.b ∷ y.c ∷ []) x_is ∙ node_fields bytes n) in
+        record {
+          lower = rw (kind_is, fields_are) at m.lower;
+          own = rw (kind_is, tag_is) at m.own;
+          all = rw (kind_is, tag_is, fields_are) at m.all;
+        }
 
-  pub next_own : names kind ≡ true → tag < 32
-  next_own e = omega (arith, next_mentions.own e, types_few bytes ready.table)
+    pub next_own : names x.kind ≡ true → x.tag < 32
+    next_own e = omega (arith, next_mentions.own e, types_few bytes ready.table)
 
-  children_long : length children ≡ get_or places kind 0
-  children_long = length-take-le (get_or places kind 0) (fields bytes (place_of bytes n)) next_mentions.few
+    pub next_children : Children lists children
+    next_children j h =
+        let c = get_or children j 0 in
+        let below : c < n = next_mentions.lower j h in
+        let small = size.small in
+        let inside = ready.inside in
+        let r = right_row bytes ready.table lists c (omega arith) ready.made.long (ready.made.upto c below) in
+        record { long = r.long; inside = r.inside; few = r.few; low = λ i q. omega (arith, r.low i q, types_few bytes ready.table) }
 
-  pub next_children : Children bytes lists (place_of bytes n) (get_or places kind 0)
-  next_children = record { inside = next_inside; few = next_mentions.few; rows = row }
-    where
-      row : (j : ℕ) → j < get_or places kind 0 → Row 32 lists (get_or (fields bytes (place_of bytes n)) j 0)
-      row j h =
-          let c = get_or (fields bytes (place_of bytes n)) j 0 in
-          let below : c < n = rw (get_or-take (get_or places kind 0) (fields bytes (place_of bytes n)) j 0 h) at (next_mentions.lower j (rw children_long h)) in
-          let small = size.small in
-          let inside = ready.inside in
-          let r = right_row bytes ready.table lists c (omega arith) ready.made.long (ready.made.upto c below) in
-          record { long = r.long; inside = r.inside; few = r.few; low = λ i q. omega (arith, r.low i q, types_few bytes ready.table) }
+    -- the flags that its children set
+    flags_children : rising 0 flags ≡ together (vars_at bytes) children
+    flags_children = rising_together 32 (list_at lists) (vars_at bytes) children low (λ j h. (ready.made.upto (get_or children j 0) (next_mentions.lower j h)).list)
+      where
+        low : (c : ℕ) → Below 32 (vars_at bytes c)
+        low c i h = omega (arith, rises_below (length (types_of bytes)) (vars_at bytes c) (rises_node bytes ready.table.0 ready.table.1 c) i h, types_few bytes ready.table)
 
-  -- the flags that its children set
-  flags_children : rising 0 flags ≡ together (vars_at bytes) children
-  flags_children = rising_together 32 (list_at lists) (vars_at bytes) children low (λ j h. (ready.made.upto (get_or children j 0) (next_mentions.lower j h)).list)
-    where
-      low : (c : ℕ) → Below 32 (vars_at bytes c)
-      low c i h = omega (arith, rises_below (length (types_of bytes)) (vars_at bytes c) (rises_node bytes ready.table.0 ready.table.1 c) i h, types_few bytes ready.table)
+    -- are those of its variables, with its own where it names one
+    pub flags_plain : names x.kind ≡ false → rising 0 flags ≡ vars_at bytes n
+    flags_plain e = flags_children ∙ sym (next_mentions.all ∙ ap (λ (b : Bool). with_own b x.tag (together (vars_at bytes) children)) e)
 
-  -- are those of its variables, with its own where it names one
-  pub flags_plain : names kind ≡ false → rising 0 flags ≡ vars_at bytes n
-  flags_plain e = flags_children ∙ sym (next_mentions.all ∙ ap (λ (b : Bool). with_own b tag (together (vars_at bytes) children)) e)
-
-  pub flags_own : names kind ≡ true → rising 0 (set flags tag true) ≡ vars_at bytes n
-  flags_own e =
-      let long : length flags ≡ 32 = length_flagged_by (list_at lists) children (replicate 32 false) in
-      sym (insert_rising tag flags (rw long (next_own e))) ∙ ap (insert tag) flags_children
-      ∙ sym (next_mentions.all ∙ ap (λ (b : Bool). with_own b tag (together (vars_at bytes) children)) e)
+    pub flags_own : names x.kind ≡ true → rising 0 (set flags x.tag true) ≡ vars_at bytes n
+    flags_own e =
+        let long : length flags ≡ 32 = length_flagged_by (list_at lists) children (replicate 32 false) in
+        sym (insert_rising x.tag flags (rw long (next_own e))) ∙ ap (insert x.tag) flags_children
+        ∙ sym (next_mentions.all ∙ ap (λ (b : Bool). with_own b x.tag (together (vars_at bytes) children)) e)

@@ -1,7 +1,7 @@
 -- The paper's numbers and values of the code's answers: what each case of an enum stands for.
 -- The contracts and the promises speak of an answer of the code through these definitions.
 -- Assumes nothing.
-use Rattle.std.specs.Prelude.{◌≡◌, refl, ℕ}
+use Rattle.std.specs.Prelude.{◌≡◌, refl, ℕ, Result, Ok, Err, ⊤}
 use Rattle.rules.specs.Outcome as Paper
 use Rattle.rules.specs.Call as Call
 use Rattle.table.specs.declared.answer.Refusal.{Refusal}
@@ -29,6 +29,11 @@ reason_of Broken = Paper.broken
 abbrev pub number_of : Outcome → ℕ
 number_of Accepted = 0
 number_of (Refused r) = Paper.paper_number (reason_of r)
+
+-- what an answer carries of a call that is accepted or refused
+abbrev pub outcome_of : Result ⊤ Refusal → Outcome
+outcome_of (Ok u) = Accepted
+outcome_of (Err r) = Refused r
 
 -- the paper's answer
 abbrev pub answer_of : Answer → Call.Answer

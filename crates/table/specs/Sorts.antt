@@ -1,98 +1,133 @@
 -- What the check of a node looks at: the sort and the height of each part made before, and what the node's kind asks of its fields.
--- A sort is a number: 0 a number, 1 a truth, as in a type's byte, 2 a statement, 3 no part.
 -- Assumes nothing.
-use Rattle.std.specs.Prelude.{ℕ, suc, ◌+◌, max, min, Bool, true, List, [], ◌∷◌, ◌++◌, get_or, ltb, eqb}
-use Rattle.std.proofs.Math.Option.{Option, none, some}
+use Rattle.std.specs.Prelude.{◌≡◌, ℕ, suc, ◌+◌, max, min, Bool, true, false, List, [], ◌∷◌, ◌++◌, get_or, ltb, eqb, Option, None, Some, Result, Ok, Err, MatchResult}
+use Rattle.std.proofs.Math.Option as Maybe
 use Rattle.rules.specs.Outcome.{choose}
 use Rattle.rules.specs.Value.{Ty}
 use Rattle.rules.specs.Tree.{gives, depth_of, depth}
 use Rattle.rules.specs.Table as Table
-use Rattle.rules.specs.Table.{byte, Kind, number_constant, truth_constant, variable, operator, skip, assign, sequence, if, repeat, Part, expression, statement}
-use Rattle.table.specs.declared.node.Fields.{Fields}
+use Rattle.rules.specs.Table.{byte, ty_of, Kind, number_constant, truth_constant, variable, operator, skip, assign, sequence, if, repeat, expression, statement}
+use Rattle.table.specs.declared.answer.Refusal.{Refusal}
+use Rattle.table.specs.declared.node.Node.{Node}
+use Rattle.table.specs.declared.node.Sort.{Sort}
+use Rattle.table.specs.declared.node.Part.{Part}
+use Rattle.table.specs.declared.node.Tag.{Tag}
+use Rattle.table.specs.declared.node.Wanted.{Wanted}
+use Rattle.table.specs.declared.node.Field.{Field}
 use Rattle.table.specs.declared.node.Form.{Form}
+use Rattle.table.specs.Kinds.{paper_kind, kind_number_of}
 
 -- the paper's node
-abbrev pub node_of : Fields → Table.Node
-node_of x = record { kind = x.kind; tag = x.tag; a = x.a; b = x.b; c = x.c }
+abbrev pub node_of : Node → Table.Node
+node_of x = record { kind = kind_number_of x.kind; tag = x.tag; a = x.a; b = x.b; c = x.c }
 
--- ---- sorts and heights of parts
+-- the node is read, or its kind is none and it is refused
+abbrev pub IsRead : Table.Node → Result Node Refusal → Type 0
+IsRead n r = MatchResult r
+    (λ x. (Table.kind_of n.kind ≡ Maybe.some (paper_kind x.kind)) × (node_of x ≡ n))
+    (λ reason. (reason ≡ Refusal.Node) × (Table.kind_of n.kind ≡ Maybe.none))
 
--- a type's byte
-abbrev pub ty_byte : Ty → ℕ
-ty_byte Ty.number = 0
-ty_byte Ty.truth = 1
+-- ---- sorts and heights of parts; 25 stands for any height above 24
 
-abbrev pub sort_of : Part → ℕ
-sort_of (expression t e) = ty_byte t
-sort_of (statement s) = 2
+abbrev pub sort_of_type : Ty → Sort
+sort_of_type Ty.number = Sort.Number
+sort_of_type Ty.truth = Sort.Truth
 
-abbrev pub height_of : Part → ℕ
+abbrev pub sort_of : Table.Part → Sort
+sort_of (expression t e) = sort_of_type t
+sort_of (statement s) = Sort.Statement
+
+abbrev pub height_of : Table.Part → ℕ
 height_of (expression t e) = depth_of e
 height_of (statement s) = depth s
 
--- of a part that may be missing
-abbrev pub sort_in : Option Part → ℕ
-sort_in none = 3
-sort_in (some p) = sort_of p
+-- what the code keeps of a part, and of one that may be missing
+abbrev pub kept : Table.Part → Part
+kept p = record { sort = sort_of p; height = min 25 (height_of p) }
 
-abbrev pub height_in : Option Part → ℕ
-height_in none = 0
-height_in (some p) = height_of p
+abbrev pub kept_in : Maybe.Option Table.Part → Option Part
+kept_in Maybe.none = None
+kept_in (Maybe.some p) = Some (kept p)
 
 -- ---- what a kind asks
 
-abbrev pub asked : ℕ → ℕ → ℕ → ℕ → ℕ → Form
+abbrev pub asked : Tag → Field → Field → Field → Wanted → Form
 asked tag a b c gives = record { tag = tag; a = a; b = b; c = c; gives = gives }
 
--- Of the tag: below 1, below 2, or 3 for a variable's number. Of a field: 0, 1, 2 for a child of that sort, 3 for zero, 4 for
--- anything, 5 for a child of the variable's type. Given: a sort, or 5 for the variable's type.
-unfoldable pub form : Option Kind → Form
-form none = asked 0 4 4 4 3
-form (some number_constant) = asked 1 3 4 4 0
-form (some truth_constant) = asked 2 3 3 3 1
-form (some variable) = asked 3 3 3 3 5
-form (some (operator o)) = asked 1 0 0 3 (ty_byte (gives o))
-form (some skip) = asked 1 3 3 3 2
-form (some assign) = asked 3 5 3 3 2
-form (some sequence) = asked 1 2 2 3 2
-form (some if) = asked 1 1 2 2 2
-form (some repeat) = asked 1 0 2 3 2
+abbrev pub child_of : Sort → Field
+child_of s = Field.Child (Wanted.Sort s)
 
-unfoldable pub tag_fits : ℕ → ℕ → ℕ → Bool
-tag_fits rule tag v = ltb tag (choose (eqb rule 3) v rule)
+abbrev pub form : Kind → Form
+form number_constant = asked Tag.Zero Field.Zero Field.Free Field.Free (Wanted.Sort Sort.Number)
+form truth_constant = asked Tag.Bit Field.Zero Field.Zero Field.Zero (Wanted.Sort Sort.Truth)
+form variable = asked Tag.Variable Field.Zero Field.Zero Field.Zero Wanted.Tagged
+form (operator o) = asked Tag.Zero (child_of Sort.Number) (child_of Sort.Number) Field.Zero (Wanted.Sort (sort_of_type (gives o)))
+form skip = asked Tag.Zero Field.Zero Field.Zero Field.Zero (Wanted.Sort Sort.Statement)
+form assign = asked Tag.Variable (Field.Child Wanted.Tagged) Field.Zero Field.Zero (Wanted.Sort Sort.Statement)
+form sequence = asked Tag.Zero (child_of Sort.Statement) (child_of Sort.Statement) Field.Zero (Wanted.Sort Sort.Statement)
+form if = asked Tag.Zero (child_of Sort.Truth) (child_of Sort.Statement) (child_of Sort.Statement) (Wanted.Sort Sort.Statement)
+form repeat = asked Tag.Zero (child_of Sort.Number) (child_of Sort.Statement) Field.Zero (Wanted.Sort Sort.Statement)
 
-unfoldable pub field_fits : ℕ → ℕ → List ℕ → Bool
-field_fits rule x sorts = choose (eqb rule 4) true (choose (eqb rule 3) (eqb x 0) (eqb (get_or sorts x 3) rule))
+abbrev pub tag_fits : Tag → ℕ → ℕ → Bool
+tag_fits Tag.Zero tag v = eqb tag 0
+tag_fits Tag.Bit tag v = ltb tag 2
+tag_fits Tag.Variable tag v = ltb tag v
 
--- the type of the variable that the tag names, where that is asked
-unfoldable pub typed : List ℕ → ℕ → ℕ → ℕ
-typed bytes rule tag = choose (eqb rule 5) (byte bytes (16 + tag)) rule
+-- the sort that is asked for or given, where it may be the type of the variable that the tag names
+abbrev pub wanted_by : List ℕ → Wanted → ℕ → Sort
+wanted_by bytes (Wanted.Sort s) tag = s
+wanted_by bytes Wanted.Tagged tag = sort_of_type (ty_of (byte bytes (16 + tag)))
 
--- the sort of the part that a node makes, 3 for none
-unfoldable pub sort_by : List ℕ → ℕ → Form → Table.Node → List ℕ → ℕ
-sort_by bytes v f n sorts =
+abbrev pub is_sort : Sort → Sort → Bool
+is_sort Sort.Number Sort.Number = true
+is_sort Sort.Number Sort.Truth = false
+is_sort Sort.Number Sort.Statement = false
+is_sort Sort.Truth Sort.Number = false
+is_sort Sort.Truth Sort.Truth = true
+is_sort Sort.Truth Sort.Statement = false
+is_sort Sort.Statement Sort.Number = false
+is_sort Sort.Statement Sort.Truth = false
+is_sort Sort.Statement Sort.Statement = true
+
+-- ---- the part that a node makes
+
+-- go on with the value; a refusal is handed up unchanged
+infixl 10 ◌then◌
+abbrev pub ◌then◌ : {A B : Type 0} → Result A Refusal → (A → Result B Refusal) → Result B Refusal
+Ok a then next = next a
+Err r then next = Err r
+
+-- the height of a part, which is to be there and of this sort
+abbrev pub height_as : Sort → Option Part → Result ℕ Refusal
+height_as s None = Err Refusal.Node
+height_as s (Some p) = choose (is_sort p.sort s) (Ok p.height) (Err Refusal.Node)
+
+-- the height of a field's child, 0 where it has none; refused where the field is not as asked
+abbrev pub field_by : List ℕ → Field → ℕ → ℕ → List (Option Part) → Result ℕ Refusal
+field_by bytes Field.Free x tag parts = Ok 0
+field_by bytes Field.Zero x tag parts = choose (eqb x 0) (Ok 0) (Err Refusal.Node)
+field_by bytes (Field.Child w) x tag parts = height_as (wanted_by bytes w tag) (get_or parts x None)
+
+-- one more than the highest child
+abbrev pub height_by : ℕ → ℕ → ℕ → ℕ
+height_by a b c = min 25 (suc (max (max a b) c))
+
+unfoldable pub part_by : List ℕ → ℕ → Form → Table.Node → List (Option Part) → Result Part Refusal
+part_by bytes v f n parts =
     choose (tag_fits f.tag n.tag v)
-    (choose (field_fits (typed bytes f.a n.tag) n.a sorts)
-    (choose (field_fits f.b n.b sorts)
-    (choose (field_fits f.c n.c sorts) (typed bytes f.gives n.tag) 3)
-    3)
-    3)
-    3
+    (field_by bytes f.a n.a n.tag parts then λ a.
+    field_by bytes f.b n.b n.tag parts then λ b.
+    field_by bytes f.c n.c n.tag parts then λ c.
+    Ok (record { sort = wanted_by bytes f.gives n.tag; height = height_by a b c }))
+    (Err Refusal.Node)
 
 -- ---- children
 
 -- the children of a field: one, or none where the field is no child
-unfoldable pub child_in : ℕ → ℕ → List ℕ
-child_in rule x = choose (eqb rule 4) [] (choose (eqb rule 3) [] (x ∷ []))
+abbrev pub child_in : Field → ℕ → List ℕ
+child_in Field.Free x = []
+child_in Field.Zero x = []
+child_in (Field.Child w) x = x ∷ []
 
 unfoldable pub children_in : Form → Table.Node → List ℕ
 children_in f n = child_in f.a n.a ++ (child_in f.b n.b ++ child_in f.c n.c)
-
--- ---- heights; 25 stands for any above 24
-
-unfoldable pub child_height : ℕ → ℕ → List ℕ → ℕ
-child_height rule x heights = choose (eqb rule 4) 0 (choose (eqb rule 3) 0 (get_or heights x 0))
-
-unfoldable pub height_by : Form → Table.Node → List ℕ → ℕ
-height_by f n heights =
-    min 25 (suc (max (child_height f.a n.a heights) (max (child_height f.b n.b heights) (child_height f.c n.c heights))))

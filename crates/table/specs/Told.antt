@@ -1,9 +1,11 @@
 -- What the parts of the check tell: a test's answer of an outcome, and the header's tests in groups.
 -- Assumes nothing.
-use Rattle.std.specs.Prelude.{◌≡◌, ℕ, ◌+◌, ◌*◌, ◌≤◌, min, Bool, true, false, ◌&&◌, List, [], length, leb, eqb}
-use Rattle.rules.specs.Outcome.{Refusal, Outcome, accepted, refused, ◌>>=◌, node_wrong}
+use Rattle.std.specs.Prelude.{◌≡◌, ℕ, ◌+◌, ◌*◌, ◌≤◌, min, Bool, true, false, ◌&&◌, List, [], length, leb, eqb, Result}
+use Rattle.rules.specs.Outcome.{Refusal, Outcome, accepted, refused, ◌>>=◌}
 use Rattle.rules.specs.Tree.{Statement, depth}
-use Rattle.rules.specs.Table.{u16, variables, nodes, types_of, nodes_of, make_all, root_of}
+use Rattle.rules.specs.Table.{u16, marked, variables, nodes, types_of, nodes_of, make_all, root_of}
+use Rattle.table.specs.declared.answer.Refusal.{Refusal as Reason}
+use Rattle.table.specs.Agrees.{Agrees}
 
 -- the answer is whether this is accepted, and if not, it is refused for this reason
 pub data Tells {A : Type 0} (reason : Refusal) : Outcome A → Bool → Type 0 where
@@ -17,6 +19,13 @@ sizes_fit v n = leb 1 v && (leb v 32 && (leb 1 n && leb n 512))
 -- "offset of types (16), offset of nodes (16+V), total length (16+V+8N), zero"
 unfoldable pub offsets_fit : List ℕ → ℕ → ℕ → Bool
 offsets_fit bytes v n = eqb (u16 bytes 8) 16 && (eqb (u16 bytes 10) (16 + v) && (eqb (u16 bytes 12) (16 + v + 8 * n) && eqb (u16 bytes 14) 0))
+
+-- the header's tests, in these groups
+unfoldable pub header_fits : List ℕ → Bool
+header_fits bytes =
+    leb 16 (length bytes)
+    && (marked bytes && (sizes_fit (u16 bytes 4) (u16 bytes 6)
+    && (offsets_fit bytes (u16 bytes 4) (u16 bytes 6) && eqb (length bytes) (16 + u16 bytes 4 + 8 * u16 bytes 6))))
 
 -- what a right header tells of the table's size
 pub record Headed (bytes : List ℕ) (v n : ℕ) : Type 0 where
@@ -32,7 +41,6 @@ pub record Headed (bytes : List ℕ) (v n : ℕ) : Type 0 where
 unfoldable pub tree_of : List ℕ → Outcome Statement
 tree_of bytes = make_all (types_of bytes) [] (nodes_of bytes) >>= root_of
 
--- the number is the tree's depth, 25 for any above 24, or 0 where a node is wrong
-pub data IsDepth : Outcome Statement → ℕ → Type 0 where
-  tree : {root : Statement} {d : ℕ} → d ≡ min 25 (depth root) → IsDepth (accepted root) d
-  none : IsDepth (refused node_wrong) 0
+-- the answer is the tree's depth, 25 for any above 24; refused where a node or the root is wrong
+abbrev pub IsDepth : Outcome Statement → Result ℕ Reason → Type 0
+IsDepth = Agrees (λ root d. d ≡ min 25 (depth root))

@@ -1,66 +1,33 @@
-// Reading a table's bytes: numbers of 16 and 32 bits, little-endian, and the fields of the node at a place.
-ghost use Rattle.std.specs.Prelude.{◌≡◌, ◌+◌, ◌*◌, ◌<◌, ◌≤◌, length, drop};
-ghost use Rattle.rules.specs.Table.{byte, u16, read_node, constant_of};
+// Reading a table's bytes: numbers of 16 and 32 bits, little-endian, and types.
+ghost use Rattle.std.specs.Prelude.{◌≡◌, ◌+◌, ◌<◌, ◌≤◌, length, drop};
+ghost use Rattle.rules.specs.Table.{u16, variables, nodes_at, types_of, read_node, constant_of};
+ghost use Rattle.rules.specs.Value.{type_of};
+ghost use Rattle.table.specs.Kinds.{paper_type};
 
-// A byte as a number.
-pub fn wide(b: u8) -> usize
-    ensures { (result ≡ b) × (result < 256) }
-{
-    b as usize
-}
+use crate::kind::Type;
+use crate::layout::HEADER_LENGTH;
 
 // The 16 bits at a place of the table.
+#[tactic(auto, unfolding(rules::specs::Table::u16))]
 pub fn pair(t: &[u8], at: usize) -> usize
     requires { at + 1 < length t.now }
     ensures { (result ≡ u16 t.now at) × (result < 65536) }
 {
-    wide(t[at]) + 256 * wide(t[at + 1])
+    usize::from(u16::from_le_bytes([t[at], t[at + 1]]))
 }
 
-// The kind of the node whose eight bytes begin here.
-pub fn kind(t: &[u8], at: usize) -> usize
-    requires { at + 8 ≤ length t.now }
-    ensures { result ≡ (read_node (drop at t.now)).kind }
-{
-    wide(t[at])
-}
-
-// Its tag.
-pub fn tag(t: &[u8], at: usize) -> usize
-    requires { at + 8 ≤ length t.now }
-    ensures { result ≡ (read_node (drop at t.now)).tag }
-{
-    wide(t[at + 1])
-}
-
-// Its children A, B and C.
-pub fn child_a(t: &[u8], at: usize) -> usize
-    requires { at + 8 ≤ length t.now }
-    ensures { result ≡ (read_node (drop at t.now)).a }
-{
-    pair(t, at + 2)
-}
-
-pub fn child_b(t: &[u8], at: usize) -> usize
-    requires { at + 8 ≤ length t.now }
-    ensures { result ≡ (read_node (drop at t.now)).b }
-{
-    pair(t, at + 4)
-}
-
-pub fn child_c(t: &[u8], at: usize) -> usize
-    requires { at + 8 ≤ length t.now }
-    ensures { result ≡ (read_node (drop at t.now)).c }
-{
-    pair(t, at + 6)
-}
-
-// The number of a number constant: bytes 4 to 7, signed.
+// The number of the number constant whose eight bytes begin here: bytes 4 to 7, signed.
 pub fn constant(t: &[u8], at: usize) -> i64
     requires { at + 8 ≤ length t.now }
     ensures { result ≡ constant_of (read_node (drop at t.now)) }
 {
-    let bits = pair(t, at + 4) + 65536 * pair(t, at + 6);
-    let raised = (bits + 2147483648) % 4294967296;
-    raised as i64 - 2147483648
+    i64::from(i32::from_le_bytes([t[at + 4], t[at + 5], t[at + 6], t[at + 7]]))
+}
+
+// The type of a variable.
+pub fn type_of(t: &[u8], v: usize) -> Type
+    requires { (nodes_at t.now ≤ length t.now) × (v < variables t.now) }
+    ensures { paper_type result ≡ type_of (types_of t.now) v }
+{
+    Type::from(t[HEADER_LENGTH + v])
 }

@@ -8,7 +8,4 @@ pub const MOST_VARIABLES: usize = 32;
 
 pub const MOST_NODES: usize = 512;
 
-pub const MOST_DEPTH: usize = 24;
-
-// Stands for any depth above the most.
-pub const DEEPER: u8 = 25;
+pub const MOST_DEPTH: u8 = 24;

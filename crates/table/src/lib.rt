@@ -4,8 +4,11 @@
 pub mod access;
 pub mod answer;
 pub mod check;
+pub mod header;
+pub mod kind;
 pub mod layout;
 pub mod mentioned;
 pub mod node;
 pub mod paper;
+pub mod script;
 pub mod uses;

@@ -1,111 +1,127 @@
 // The variables that each node mentions, computed once for all nodes in rising node order, so that a snapshot or a skip test
 // goes over a short list.
-ghost use Rattle.std.specs.Prelude.{◌≡◌, ◌+◌, ◌*◌, ◌<◌, ◌≤◌, length, get_or, take};
+ghost use Rattle.std.specs.Prelude.{◌≡◌, ◌+◌, ◌*◌, ◌<◌, ◌≤◌, get_or, take};
 ghost use Rattle.rules.proofs.Laws.Rising.{rising, flagged, flagged_by};
-ghost use Rattle.rules.proofs.Laws.Variables.{vars_at, names, places, place_of, fields};
+ghost use Rattle.rules.proofs.Laws.Variables.{vars_at, names, places};
 ghost use Rattle.table.specs.Accepted.{AcceptedTable};
+ghost use Rattle.table.specs.Kinds.{kind_number_of};
 ghost use Rattle.table.specs.Lists.{list_at, Row, Lists};
 ghost use Rattle.table.specs.Rows.{laid};
-ghost use Rattle.table.specs.Listing.{Children, Placed, Ready};
+ghost use Rattle.table.specs.Listing.{Children, Ready};
 
-use crate::access::{pair, wide};
+use crate::access::pair;
+use crate::kind::Kind;
+use crate::layout::{HEADER_LENGTH, NODE_LENGTH};
+use crate::node::{Node, read_known};
 
-// For each node n: at 33 * n how many variables it mentions, and behind it their numbers, rising.
+// A row has a byte for the count, and one for each of 32 variables.
+const ROW_LENGTH: usize = 33;
+
+// For each node n: at 33 * n how many variables it mentions, and behind it their numbers, rising. One array of fixed size, since the
+// library takes no memory.
 #[derive(Clone, Copy, Drop)]
 pub struct Mentioned {
     pub lists: [u8; 16896],
 }
 
-// How many children a node of each kind uses, from kind 0 on.
-const PLACES: [u8; 21] = [
-    0, 0, 0, 0, 2, 2, 2, 2, 2, 0, 0, 0, 0, 0, 0, 0, 0, 1, 2, 3, 2,
-];
+impl Mentioned {
+    // The variables that node n mentions, rising.
+    pub fn of(&self, n: usize) -> &[u8]
+        requires { Row 32 self.now.lists n }
+        ensures { result.now ≡ list_at self.now.lists n }
+    {
+        let row = ROW_LENGTH * n;
+        let count = usize::from(self.lists[row]);
+        &self.lists[row + 1..row + 1 + count]
+    }
 
-// How many children a node of this kind uses.
-fn places_of(kind: usize) -> usize
-    requires { kind < 21 }
-    ensures { result ≡ get_or places kind 0 }
+    // No lists yet: a place to fill.
+    pub fn blank() -> Mentioned {
+        Mentioned { lists: [0; 16896] }
+    }
+
+    // Makes these the lists of all nodes of an accepted table, where they stand: what is filled is not copied.
+    pub fn fill(&mut self, t: &[u8])
+        requires { AcceptedTable t.now }
+        ensures { Lists t.now self.new.lists }
+    {
+        let variables = pair(t, 4);
+        for n in 0..pair(t, 6) {
+            let flags = flags_of(t, self, n);
+            self.write(n, flags, variables);
+        }
+    }
+
+    // Writes the flagged variables below a bound, rising, as the list of node n.
+    fn write(&mut self, n: usize, flags: [bool; 32], bound: usize)
+        requires { (n < 512) × (bound ≤ 32) }
+        ensures { self.new.lists ≡ laid self.old.lists n (rising 0 (take bound flags)) }
+    {
+        let row = ROW_LENGTH * n;
+        let mut count = 0;
+        for v in 0..bound {
+            if flags[v] {
+                self.lists[row + 1 + count] = v as u8;
+                count += 1;
+            }
+        }
+        self.lists[row] = count as u8;
+    }
+}
+
+// How many of its fields a node of this kind uses as children.
+fn places_of(kind: Kind) -> usize
+    ensures { result ≡ get_or places (kind_number_of kind) 0 }
 {
-    wide(PLACES[kind])
+    match kind {
+        Kind::NumberConstant | Kind::TruthConstant | Kind::Variable | Kind::Skip => 0,
+        Kind::Assign => 1,
+        Kind::Operator(_) | Kind::Sequence | Kind::Repeat => 2,
+        Kind::If => 3,
+    }
 }
 
 // Whether a node of this kind, a variable or an assignment, names a variable itself.
-fn names_one(kind: usize) -> bool
-    ensures { result ≡ names kind }
+#[tactic(auto, unfolding(rules::proofs::Laws::Variables::names))]
+fn names_one(kind: Kind) -> bool
+    ensures { result ≡ names (kind_number_of kind) }
 {
-    if kind == 3 {
-        return true;
-    }
-    kind == 17
+    matches!(kind, Kind::Variable | Kind::Assign)
 }
 
 // Sets the flags of the variables on a node's list.
-fn flag_list(flags: &mut [bool; 32], lists: &[u8; 16896], node: usize)
-    requires { Row 32 lists.now node }
-    ensures { flags.new ≡ flagged flags.old (list_at lists.now node) }
+fn flag_list(flags: &mut [bool; 32], made: &Mentioned, node: usize)
+    requires { Row 32 made.now.lists node }
+    ensures { flags.new ≡ flagged flags.old (list_at made.now.lists node) }
 {
-    let row = 33 * node;
-    let count = wide(lists[row]);
-    let mut i = 0;
-    while i < count {
-        let v = wide(lists[row + 1 + i]);
-        flags[v] = true;
-        i += 1;
+    for &v in made.of(node) {
+        flags[usize::from(v)] = true;
     }
 }
 
 // Sets the flags of the variables on the lists of a node's children, the last child's first.
-fn flag_children(flags: &mut [bool; 32], t: &[u8], lists: &[u8; 16896], at: usize, count: usize)
-    requires { Children t.now lists.now at count }
-    ensures { flags.new ≡ flagged_by (list_at lists.now) (take count (fields t.now at)) flags.old }
+fn flag_children(flags: &mut [bool; 32], made: &Mentioned, children: &[usize])
+    requires { Children made.now.lists children.now }
+    ensures { flags.new ≡ flagged_by (list_at made.now.lists) children.now flags.old }
 {
-    let mut left = count;
-    while 0 < left {
-        left -= 1;
-        flag_list(flags, lists, pair(t, at + 2 + 2 * left));
+    for i in (0..children.len()).rev() {
+        flag_list(flags, made, children[i]);
     }
-}
-
-// Where the bytes of node n stand.
-fn place_of(t: &[u8], n: usize) -> usize
-    requires { Placed t.now n }
-    ensures { result ≡ place_of t.now n }
-{
-    16 + pair(t, 4) + 8 * n
 }
 
 // The flags of the variables that node n mentions, from the lists of the nodes below it.
-fn flags_of(t: &[u8], lists: &[u8; 16896], n: usize) -> [bool; 32]
-    requires { Ready t.now lists.now n }
+fn flags_of(t: &[u8], made: &Mentioned, n: usize) -> [bool; 32]
+    requires { Ready t.now made.now.lists n }
     ensures { rising 0 result ≡ vars_at t.now n }
 {
-    let at = place_of(t, n);
-    let kind = wide(t[at]);
+    let node = read_known(t, HEADER_LENGTH + pair(t, 4) + NODE_LENGTH * n);
+    let fields = [node.a, node.b, node.c];
     let mut flags = [false; 32];
-    flag_children(&mut flags, t, lists, at, places_of(kind));
-    if names_one(kind) {
-        let v = wide(t[at + 1]);
-        flags[v] = true;
+    flag_children(&mut flags, made, &fields[..places_of(node.kind)]);
+    if names_one(node.kind) {
+        flags[node.tag] = true;
     }
     flags
-}
-
-// Writes the flagged variables below a bound, rising, as the list of node n.
-fn write_list(lists: &mut [u8; 16896], n: usize, flags: [bool; 32], bound: usize)
-    requires { (length lists.old ≡ 16896) × (n < 512) × (bound ≤ 32) }
-    ensures { lists.new ≡ laid lists.old n (rising 0 (take bound flags)) }
-{
-    let row = 33 * n;
-    let mut count = 0;
-    let mut v = 0;
-    while v < bound {
-        if flags[v] {
-            lists[row + 1 + count] = v as u8;
-            count += 1;
-        }
-        v += 1;
-    }
-    lists[row] = count as u8;
 }
 
 // The lists of all nodes of an accepted table.
@@ -113,14 +129,7 @@ pub fn mentions(t: &[u8]) -> Mentioned
     requires { AcceptedTable t.now }
     ensures { Lists t.now result.lists }
 {
-    let mut lists = [0u8; 16896];
-    let variables = pair(t, 4);
-    let count = pair(t, 6);
-    let mut n = 0;
-    while n < count {
-        let flags = flags_of(t, &lists, n);
-        write_list(&mut lists, n, flags, variables);
-        n += 1;
-    }
-    Mentioned { lists }
+    let mut made = Mentioned::blank();
+    made.fill(t);
+    made
 }

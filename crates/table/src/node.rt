@@ -1,73 +1,123 @@
-// A node of the table: its fields, what its kind asks of them, and the sort and height of the part that it makes of those before.
-// A sort is a byte: a type's own byte for an expression of that type, 2 for a statement, 3 where there is no part.
-ghost use Rattle.std.specs.Prelude.{◌≡◌, ◌+◌, ◌<◌, ◌≤◌, max, length, drop};
+// A node of the table: its fields, what its kind asks of them, and the part that it makes of those before.
+ghost use Rattle.std.specs.Prelude.{◌≡◌, ◌≢◌, ◌+◌, ◌<◌, ◌≤◌, length, drop};
+ghost use Rattle.std.proofs.Math.Option.{none};
 ghost use Rattle.rules.specs.Table.{read_node, kind_of};
-ghost use Rattle.table.specs.Sorts.{node_of, asked, form, tag_fits, field_fits, typed, sort_by, child_height, height_by};
+ghost use Rattle.table.specs.Kinds.{paper_type, paper_kind};
+ghost use Rattle.table.specs.Sorts.{node_of, IsRead, sort_of_type, form, tag_fits, wanted_by, height_as, field_by, part_by};
 
-use crate::access::{pair, wide};
-use crate::layout::{DEEPER, HEADER_LENGTH, MOST_DEPTH, MOST_NODES};
+use crate::access::pair;
+use crate::answer::Refusal;
+use crate::header::Extent;
+use crate::kind::{Kind, Type};
+use crate::layout::{HEADER_LENGTH, MOST_DEPTH, MOST_NODES};
 
-// A part's sort, and of a field that it is the number of a part of this sort.
-const NUMBER: u8 = 0;
-
-const TRUTH: u8 = 1;
-
-pub const STATEMENT: u8 = 2;
-
-// No part; of a field, that it is unused.
-pub const NOTHING: u8 = 3;
-
-// Of a field: any number will do.
-pub const FREE: u8 = 4;
-
-// Of a field or a result: the type of the variable that the tag names.
-const TYPED: u8 = 5;
-
-// Of a tag: that it is below this number, so that with 0 none will do.
-const ZERO: u8 = 1;
-
-const BIT: u8 = 2;
-
-// Of a tag: the number of a variable.
-const VARIABLE: u8 = 3;
-
-// A node's eight bytes.
-#[derive(Clone, Copy, Drop)]
-pub struct Fields {
-    pub kind: usize,
+// A node's eight bytes, of a kind that there is.
+#[derive(Clone, Copy, Debug, PartialEq, Eq, Drop)]
+pub struct Node {
+    pub kind: Kind,
     pub tag: usize,
     pub a: usize,
     pub b: usize,
     pub c: usize,
 }
 
-// What a kind asks of its tag and children, and the sort that it gives.
-#[derive(Clone, Copy, Drop)]
-pub struct Form {
-    pub tag: u8,
-    pub a: u8,
-    pub b: u8,
-    pub c: u8,
-    pub gives: u8,
+// The sort of a part.
+#[derive(Clone, Copy, Debug, PartialEq, Eq, Drop)]
+pub enum Sort {
+    Number,
+    Truth,
+    Statement,
 }
 
-// The node whose bytes begin at a place of the table.
-pub fn fields_at(t: &[u8], at: usize) -> Fields
+// The sort of an expression of a type.
+impl From<Type> for Sort {
+    ghost from_gives = { λ t r. r ≡ sort_of_type (paper_type t) };
+
+    fn from(t: Type) -> Sort {
+        match t {
+            Type::Number => Sort::Number,
+            Type::Truth => Sort::Truth,
+        }
+    }
+}
+
+// The part that a node makes: its sort, and its height, one more than the most for any above.
+#[derive(Clone, Copy, Debug, PartialEq, Eq, Drop)]
+pub struct Part {
+    pub sort: Sort,
+    pub height: u8,
+}
+
+// What a kind asks of its tag: to be zero, 0 or 1, or the number of a variable.
+#[derive(Clone, Copy, Debug, PartialEq, Eq, Drop)]
+pub enum Tag {
+    Zero,
+    Bit,
+    Variable,
+}
+
+// A sort that is asked for or given: this one, or the type of the variable that the tag names.
+#[derive(Clone, Copy, Debug, PartialEq, Eq, Drop)]
+pub enum Wanted {
+    Sort(Sort),
+    Tagged,
+}
+
+const NUMBER: Wanted = Wanted::Sort(Sort::Number);
+
+const TRUTH: Wanted = Wanted::Sort(Sort::Truth);
+
+const STATEMENT: Wanted = Wanted::Sort(Sort::Statement);
+
+// What a kind asks of a field: any number will do, it is zero, or it is the number of a part of this sort.
+#[derive(Clone, Copy, Debug, PartialEq, Eq, Drop)]
+pub enum Field {
+    Free,
+    Zero,
+    Child(Wanted),
+}
+
+// What a kind asks of its tag and children, and the sort that it gives.
+#[derive(Clone, Copy, Debug, PartialEq, Eq, Drop)]
+pub struct Form {
+    pub tag: Tag,
+    pub a: Field,
+    pub b: Field,
+    pub c: Field,
+    pub gives: Wanted,
+}
+
+// The node whose bytes begin at a place of the table; refused where its kind is none.
+#[tactic(auto, using(crate::specs::Laws::Nodes::node_read, crate::specs::Laws::Nodes::node_unknown))]
+pub fn read(t: &[u8], at: usize) -> Result<Node, Refusal>
     requires { at + 8 ≤ length t.now }
-    ensures { node_of result ≡ read_node (drop at t.now) }
+    ensures { IsRead (read_node (drop at t.now)) result }
 {
-    Fields {
-        kind: wide(t[at]),
-        tag: wide(t[at + 1]),
+    let kind = Kind::try_from(t[at])?;
+    Ok(Node {
+        kind,
+        tag: usize::from(t[at + 1]),
         a: pair(t, at + 2),
         b: pair(t, at + 4),
         c: pair(t, at + 6),
+    })
+}
+
+// The node whose bytes begin at a place, where its kind is known to be one.
+pub fn read_known(t: &[u8], at: usize) -> Node
+    requires inside { at + 8 ≤ length t.now }
+    requires known { kind_of (read_node (drop at t.now)).kind ≢ none }
+    ensures { node_of result ≡ read_node (drop at t.now) }
+{
+    match read(t, at) {
+        Ok(node) => node,
+        Err(_) => unreachable!(),
     }
 }
 
 // A form of these parts.
-fn asks(tag: u8, a: u8, b: u8, c: u8, gives: u8) -> Form
-    ensures { result ≡ asked tag a b c gives }
+fn asks(tag: Tag, a: Field, b: Field, c: Field, gives: Wanted) -> Form
+    ensures { result ≡ record { tag = tag; a = a; b = b; c = c; gives = gives } }
 {
     Form {
         tag,
@@ -78,123 +128,111 @@ fn asks(tag: u8, a: u8, b: u8, c: u8, gives: u8) -> Form
     }
 }
 
-// What the kind with this number asks of its tag and its children A, B and C, and what it gives; of no kind, a tag below 0.
-pub fn form_of(kind: usize) -> Form
-    ensures { result ≡ form (kind_of kind) }
+// What a kind asks of its tag and its children A, B and C, and what it gives.
+pub fn form_of(kind: Kind) -> Form
+    ensures { result ≡ form (paper_kind kind) }
 {
+    let unused = Field::Zero;
+    let number = Field::Child(NUMBER);
+    let statement = Field::Child(STATEMENT);
     match kind {
-        1 => asks(ZERO, NOTHING, FREE, FREE, NUMBER),
-        2 => asks(BIT, NOTHING, NOTHING, NOTHING, TRUTH),
-        3 => asks(VARIABLE, NOTHING, NOTHING, NOTHING, TYPED),
-        4 => asks(ZERO, NUMBER, NUMBER, NOTHING, NUMBER),
-        5 => asks(ZERO, NUMBER, NUMBER, NOTHING, NUMBER),
-        6 => asks(ZERO, NUMBER, NUMBER, NOTHING, NUMBER),
-        7 => asks(ZERO, NUMBER, NUMBER, NOTHING, TRUTH),
-        8 => asks(ZERO, NUMBER, NUMBER, NOTHING, TRUTH),
-        16 => asks(ZERO, NOTHING, NOTHING, NOTHING, STATEMENT),
-        17 => asks(VARIABLE, TYPED, NOTHING, NOTHING, STATEMENT),
-        18 => asks(ZERO, STATEMENT, STATEMENT, NOTHING, STATEMENT),
-        19 => asks(ZERO, TRUTH, STATEMENT, STATEMENT, STATEMENT),
-        20 => asks(ZERO, NUMBER, STATEMENT, NOTHING, STATEMENT),
-        _ => asks(0, FREE, FREE, FREE, NOTHING),
+        Kind::NumberConstant => asks(Tag::Zero, unused, Field::Free, Field::Free, NUMBER),
+        Kind::TruthConstant => asks(Tag::Bit, unused, unused, unused, TRUTH),
+        Kind::Variable => asks(Tag::Variable, unused, unused, unused, Wanted::Tagged),
+        Kind::Operator(o) => asks(
+            Tag::Zero,
+            number,
+            number,
+            unused,
+            Wanted::Sort(Sort::from(o.gives())),
+        ),
+        Kind::Skip => asks(Tag::Zero, unused, unused, unused, STATEMENT),
+        Kind::Assign => asks(
+            Tag::Variable,
+            Field::Child(Wanted::Tagged),
+            unused,
+            unused,
+            STATEMENT,
+        ),
+        Kind::Sequence => asks(Tag::Zero, statement, statement, unused, STATEMENT),
+        Kind::If => asks(
+            Tag::Zero,
+            Field::Child(TRUTH),
+            statement,
+            statement,
+            STATEMENT,
+        ),
+        Kind::Repeat => asks(Tag::Zero, number, statement, unused, STATEMENT),
     }
 }
 
 // Whether the tag is one that its kind may have, in a table of v variables.
-fn tag_fits(rule: u8, tag: usize, v: usize) -> bool
+fn tag_fits(rule: Tag, tag: usize, v: usize) -> bool
     ensures { result ≡ tag_fits rule tag v }
 {
-    if rule == VARIABLE {
-        return tag < v;
+    match rule {
+        Tag::Zero => tag == 0,
+        Tag::Bit => tag < 2,
+        Tag::Variable => tag < v,
     }
-    tag < wide(rule)
-}
-
-// Whether a field is as its kind asks: free, zero, or the number of a part of this sort.
-fn field_fits(rule: u8, x: usize, sorts: &[u8; MOST_NODES]) -> bool
-    requires { length sorts.now ≡ 512 }
-    ensures { result ≡ field_fits rule x sorts.now }
-{
-    if rule == FREE {
-        return true;
-    }
-    if rule == NOTHING {
-        return x == 0;
-    }
-    if MOST_NODES <= x {
-        return false;
-    }
-    sorts[x] == rule
 }
 
 // The sort that is asked for or given, where it may be the type of the variable that the tag names.
-fn resolved(t: &[u8], rule: u8, tag: usize) -> u8
+fn wanted_by(t: &[u8], wanted: Wanted, tag: usize) -> Sort
     requires { 16 + tag < length t.now }
-    ensures { result ≡ typed t.now rule tag }
+    ensures { result ≡ wanted_by t.now wanted tag }
 {
-    if rule == TYPED {
-        return t[HEADER_LENGTH + tag];
+    match wanted {
+        Wanted::Sort(sort) => sort,
+        Wanted::Tagged => Sort::from(Type::from(t[HEADER_LENGTH + tag])),
     }
-    rule
 }
 
-// The sort of the part that a node makes of those before it, and NOTHING where it makes none.
-pub fn sort_of(t: &[u8], v: usize, f: Form, x: Fields, sorts: &[u8; MOST_NODES]) -> u8
-    requires { (16 + v < length t.now) × (19 < length t.now) × (f.tag ≤ 3) × (length sorts.now ≡ 512) }
-    ensures { result ≡ sort_by t.now v f (node_of x) sorts.now }
+// The height of a part, which is to be there and of this sort.
+pub fn height_as(sort: Sort, part: Option<Part>) -> Result<u8, Refusal>
+    ensures { result ≡ height_as sort part }
 {
-    let tag = x.tag;
-    if !tag_fits(f.tag, tag, v) {
-        return NOTHING;
+    match part {
+        Some(part) if part.sort == sort => Ok(part.height),
+        _ => Err(Refusal::Node),
     }
-    let first = resolved(t, f.a, tag);
-    if !field_fits(first, x.a, sorts) {
-        return NOTHING;
-    }
-    if !field_fits(f.b, x.b, sorts) {
-        return NOTHING;
-    }
-    if !field_fits(f.c, x.c, sorts) {
-        return NOTHING;
-    }
-    resolved(t, f.gives, tag)
 }
 
-// The height of a field's child; 0 where the field is no child.
-fn child_height(rule: u8, x: usize, heights: &[u8; MOST_NODES]) -> usize
-    requires { length heights.now ≡ 512 }
-    ensures { (result ≡ child_height rule x heights.now) × (result < 256) }
+// The height of a field's child, 0 where it has none; refused where the field is not as its kind asks.
+fn field_height(
+    t: &[u8],
+    rule: Field,
+    x: usize,
+    tag: usize,
+    parts: &[Option<Part>; MOST_NODES],
+) -> Result<u8, Refusal>
+    requires { 16 + tag < length t.now }
+    ensures { result ≡ field_by t.now rule x tag parts.now }
 {
-    if rule == FREE {
-        return 0;
+    match rule {
+        Field::Free => Ok(0),
+        Field::Zero => if x == 0 { Ok(0) } else { Err(Refusal::Node) },
+        Field::Child(wanted) => {
+            let part = if x < MOST_NODES { parts[x] } else { None };
+            height_as(wanted_by(t, wanted, tag), part)
+        }
     }
-    if rule == NOTHING {
-        return 0;
-    }
-    if MOST_NODES <= x {
-        return 0;
-    }
-    wide(heights[x])
 }
 
-// The larger of two numbers.
-fn larger(a: usize, b: usize) -> usize
-    ensures { result ≡ max a b }
+// The part that a node makes of those before it; refused where it makes none.
+#[tactic(auto, unfolding(crate::specs::Sorts::part_by))]
+pub fn part_of(table: &Extent, x: Node, parts: &[Option<Part>; MOST_NODES]) -> Result<Part, Refusal>
+    ensures { result ≡ part_by table.now.bytes.now table.now.variables (form (paper_kind x.kind)) (node_of x) parts.now }
 {
-    if a < b { b } else { a }
-}
-
-// The height of the part that a node makes: one more than its highest child's, DEEPER for any above the most.
-pub fn height_of(f: Form, x: Fields, heights: &[u8; MOST_NODES]) -> u8
-    requires { length heights.now ≡ 512 }
-    ensures { result ≡ height_by f (node_of x) heights.now }
-{
-    let a = child_height(f.a, x.a, heights);
-    let b = child_height(f.b, x.b, heights);
-    let c = child_height(f.c, x.c, heights);
-    let most = larger(a, larger(b, c));
-    if MOST_DEPTH < most {
-        return DEEPER;
+    let form = form_of(x.kind);
+    if !tag_fits(form.tag, x.tag, table.variables) {
+        return Err(Refusal::Node);
     }
-    (most + 1) as u8
+    let a = field_height(table.bytes, form.a, x.a, x.tag, parts)?;
+    let b = field_height(table.bytes, form.b, x.b, x.tag, parts)?;
+    let c = field_height(table.bytes, form.c, x.c, x.tag, parts)?;
+    Ok(Part {
+        sort: wanted_by(table.bytes, form.gives, x.tag),
+        height: a.max(b).max(c).saturating_add(1).min(MOST_DEPTH + 1),
+    })
 }

@@ -17,9 +17,9 @@ impl fmt::Display for Words<'_> {
 
 // The five counts of an answer.
 #[derive(Clone, Copy, Drop)]
-pub struct Counts<'a>(pub &'a Answer);
+pub struct Counts(pub Answer);
 
-impl fmt::Display for Counts<'_> {
+impl fmt::Display for Counts {
     fn fmt<W: fmt::Write>(&self, f: &mut fmt::Formatter<W>) -> fmt::Result {
         let answer = self.0;
         write!(

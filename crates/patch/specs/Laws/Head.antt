@@ -1,5 +1,6 @@
 -- Laws of the heads of ifs and repeats: where one is read, what stands in the old record before the walk and how far it has come.
 -- Assumes nothing.
+use Rattle.patch.specs.Statement.{listed}
 use Rattle.std.specs.Prelude.{◌≡◌, refl, ℕ, ◌+◌, ◌*◌, ◌≤◌, ◌<◌, Bool, true, false, ltb, ℤ}
 use Rattle.std.proofs.Math.Path.{sym, ap, subst}
 use Rattle.std.proofs.Common.{◌∙◌, ⊎_elim, ltb-true, ltb-false}
@@ -15,7 +16,7 @@ use Rattle.rules.specs.Table.{types_of}
 use Rattle.rules.specs.Patch.{Read, Shifted, Fork, read, read_in, read_snapshot, moved_all, shift}
 use Rattle.rules.proofs.Laws.Outcome.{refused_accepted, accepted_of, through, holds_at}
 use Rattle.rules.proofs.Laws.Size.{operations}
-use Rattle.table.specs.Lists.{list_at}
+use Rattle.table.specs.declared.script.Script.{Script}
 use Rattle.pieces.specs.Change.{Near, AllNear}
 use Rattle.pieces.specs.Old.{part, Inside}
 use Rattle.pieces.specs.Snapshot.{Named, Standing, olds, patched}
@@ -53,19 +54,19 @@ word_at_lem t old from end inside w e = ⊎_elim here past (decide (ltb from end
     past : ltb from end ≡ false → WordAt t old from end w
     past b = absurd (refused_accepted (subst (λ (ws : List ℤ). read_in t ws ≡ accepted w) (part_none old from end (ltb-false from end b)) e))
 
-module _ (bytes lists : List ℕ) (node : ℕ) (named : Named bytes lists node) (old : List ℤ) (from end : ℕ) (inside : end ≤ length old) (changes : List ℤ) where
+module _ (script : Script) (node : ℕ) (named : Named script.checked.table.now script.lists.now.lists node) (old : List ℤ) (from end : ℕ) (inside : end ≤ length old) (changes : List ℤ) where
   abbrev vs : List ℕ
-  vs = list_at lists node
+  vs = listed script node
 
   abbrev types : List Ty
-  types = types_of bytes
+  types = types_of script.checked.table.now
 
   -- the first word, and the snapshot behind it
   pub record HeadAt (t : Ty) (h : Head) : Type 0 where
     pub below : Inside old (from + 1) end
     pub word : h.word ≡ at old from
     pub typed : in_type t h.word ≡ true
-    pub snap : PatchedAt bytes lists node named old (from + 1) end below changes h.snap
+    pub snap : PatchedAt script.checked.table.now script.lists.now.lists node named old (from + 1) end below changes h.snap
 
   pub head_at : (t : Ty) (h : Head) → head_of types t vs changes (part old from end) ≡ accepted h → HeadAt t h
   unfolding head_of
@@ -76,13 +77,13 @@ module _ (bytes lists : List ℕ) (node : ℕ) (named : Named bytes lists node) 
       let is : h ≡ record { word = one.value.word; snap = two.value } = sym (accepted_of two.goes) in
       let ordered : from + 1 ≤ end = omega (arith, w.below) in
       let below : Inside old (from + 1) end = record { ordered = ordered; ends = inside } in
-      let snap : PatchedAt bytes lists node named old (from + 1) end below changes two.value
-      = patched_at bytes lists node named old (from + 1) end below changes two.value (ap (patched types vs changes) (sym w.rest) ∙ two.comes) in
+      let snap : PatchedAt script.checked.table.now script.lists.now.lists node named old (from + 1) end below changes two.value
+      = patched_at script.checked.table.now script.lists.now.lists node named old (from + 1) end below changes two.value (ap (patched types vs changes) (sym w.rest) ∙ two.comes) in
       record {
         below = below;
         word = ap (λ (k : Head). k.word) is ∙ w.word;
         typed = ap (in_type t) (ap (λ (k : Head). k.word) is ∙ w.word) ∙ w.typed;
-        snap = subst (λ (k : Head). PatchedAt bytes lists node named old (from + 1) end below changes k.snap) (sym is) snap;
+        snap = subst (λ (k : Head). PatchedAt script.checked.table.now script.lists.now.lists node named old (from + 1) end below changes k.snap) (sym is) snap;
       }
 
   -- an expression's record behind it, so many words long
@@ -105,9 +106,9 @@ module _ (bytes lists : List ℕ) (node : ℕ) (named : Named bytes lists node) 
     pub below : Inside old (from + 1) end
     pub condition : f.condition ≡ at old from
     pub truth : in_type Ty.truth f.condition ≡ true
-    pub first : Standing bytes lists node old (from + 1)
+    pub first : Standing script.checked.table.now script.lists.now.lists node old (from + 1)
     pub moved : moved_all types vs (olds old (from + 1) vs) changes ≡ accepted f.before
-    pub second : Standing bytes lists node old (from + 1 + length vs)
+    pub second : Standing script.checked.table.now script.lists.now.lists node old (from + 1 + length vs)
     pub after : f.after ≡ olds old (from + 1 + length vs) vs
     pub near : AllNear changes → Near f.test.change
     pub test : RecordAt (from + 1 + 2 * length vs) e f.test
@@ -120,8 +121,8 @@ module _ (bytes lists : List ℕ) (node : ℕ) (named : Named bytes lists node) 
       let w = length vs in
       let two = through (read_snapshot types vs one.value.snap.rest) _ f one.goes in
       let beyond : Inside old (from + 1 + w) end = record { ordered = h.snap.within; ends = inside } in
-      let a : ReadAt bytes lists node named old (from + 1 + w) end beyond two.value
-      = read_at bytes lists node named old (from + 1 + w) end beyond two.value (ap (read_snapshot types vs) (sym h.snap.rest) ∙ two.comes) in
+      let a : ReadAt script.checked.table.now script.lists.now.lists node named old (from + 1 + w) end beyond two.value
+      = read_at script.checked.table.now script.lists.now.lists node named old (from + 1 + w) end beyond two.value (ap (read_snapshot types vs) (sym h.snap.rest) ∙ two.comes) in
       let three = through (shift e changes two.value.rest) _ f two.goes in
       let place : from + 1 + w + w ≡ from + 1 + 2 * w = omega arith in
       let rest : two.value.rest ≡ part old (from + 1 + 2 * w) end = a.rest ∙ ap (λ (p : ℕ). part old p end) place in
@@ -149,7 +150,7 @@ module _ (bytes lists : List ℕ) (node : ℕ) (named : Named bytes lists node) 
     pub below : Inside old (from + 1) end
     pub word : c.head.word ≡ at old from
     pub number : in_type Ty.number c.head.word ≡ true
-    pub first : Standing bytes lists node old (from + 1)
+    pub first : Standing script.checked.table.now script.lists.now.lists node old (from + 1)
     pub was : c.head.snap.old ≡ olds old (from + 1) vs
     pub moved : moved_all types vs c.head.snap.old changes ≡ accepted c.head.snap.new
     pub new_number : in_type Ty.number c.count.change ≡ true

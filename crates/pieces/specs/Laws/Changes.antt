@@ -1,34 +1,22 @@
--- Values and their changes in 64-bit words: sums and differences of near words fit, two truths differ where their words do, and an old
--- value with its change is what the sum's word says.
+-- Values and their changes in 64-bit words: sums and differences of near words fit, and two truths differ where their words do.
 -- Assumes nothing.
-use Rattle.std.specs.Prelude.{◌≡◌, refl, ℕ, zero, suc, true, false, not, Bool, ◌⊎◌, ℤ, ◌+ℤ◌, ◌-ℤ◌}
+use Rattle.std.specs.Prelude.{◌≡◌, refl, ℕ, true, false, not, Bool, ◌⊎◌, eqb, ℤ, ◌+ℤ◌, ◌-ℤ◌, Option, Some, None}
 use Rattle.std.proofs.Common.{sym, ap₂, ◌∙◌, subst, arith, inl, inr, SFits, to_z, of_z}
+use Rattle.std.proofs.Common.{eqb-true}
+use Rattle.std.proofs.lemmas.Bool.{eqb-false}
 use Rattle.std.proofs.Math.Path.{ap}
+use mir.Val.{bool_byte}
 use Rattle.std.proofs.Math.IntN.{pos}
 use Rattle.std.specs.Int.{w64}
 use Rattle.std.proofs.lemmas.Int.{to_z-of_z}
 use Rattle.numbers.specs.Signed.{eq_z}
 use Rattle.numbers.specs.Laws.{decide, eq_z_true, eq_z_refl}
 use Rattle.numbers.specs.Bounds.{mag_add, mag_sub}
-use Rattle.rules.specs.Value.{Ty, in_type, bit, differ, plus}
-use Rattle.rules.specs.Table.{ty_of}
-use Rattle.run.specs.Laws.Numbers.{word, bit_back, word_back, mag_in, plain}
-use Rattle.run.specs.declared.number.Computed.TheVariants.{Is, Outside}
-use Rattle.pieces.specs.Change.{Near, moved_as}
+use Rattle.rules.specs.Value.{differ}
+use Rattle.run.specs.Laws.Numbers.{word, bit_back, truth_back, word_back, mag_in, plain}
+use Rattle.pieces.specs.Change.{Near}
 use Rattle.run.specs.Code.{Number}
 use Rattle.rules.specs.Outcome.{choose}
-use Rattle.run.specs.declared.number.Computed.{Computed}
-
--- ---- the type that a byte names
-
-pub number_type : {kind : ℕ} → kind ≡ 0 → ty_of kind ≡ Ty.number
-unfolding ty_of
-number_type e = ap ty_of e
-
-pub truth_type : (kind : ℕ) → (kind ≡ 0 → ⊥) → ty_of kind ≡ Ty.truth
-unfolding ty_of
-truth_type zero h = absurd (h refl)
-truth_type (suc n) h = refl
 
 -- ---- a word that is stored is read back
 
@@ -47,24 +35,25 @@ number_near z h = omega (arith, mag_in z h)
 pub kept_number : (z : ℤ) → Number z → Number (kept z)
 kept_number z h = subst Number (sym (plain z h)) h
 
--- ---- a number that was computed, or none
+-- ---- a value that was chosen, or none
 
-pub chosen_in : (b : Bool) (z : ℤ) {w : ℤ} → choose b (Is z) Outside ≡ Is w → (b ≡ true) × (w ≡ z)
-chosen_in true z {w} e = (refl, same e)
-  where
-    same : {w : ℤ} → ◌≡◌ {A = Computed} (Is z) (Is w) → w ≡ z
-    same p = cc
-chosen_in false z {w} e = absurd (apart e)
-  where
-    apart : {w : ℤ} → ◌≡◌ {A = Computed} Outside (Is w) → ⊥
-    apart p = let q : ◌≡◌ {A = ℕ} 0 1 = cc in omega arith
+module _ {A : Type 0} where
+  pub chosen_in : (b : Bool) (z : A) {w : A} → choose b (Some z) None ≡ Some w → (b ≡ true) × (w ≡ z)
+  chosen_in true z {w} e = (refl, same e)
+    where
+      same : {w : A} → ◌≡◌ {A = Option A} (Some z) (Some w) → w ≡ z
+      same p = cc
+  chosen_in false z {w} e = absurd (apart e)
+    where
+      apart : {w : A} → ◌≡◌ {A = Option A} None (Some w) → ⊥
+      apart p = let q : ◌≡◌ {A = ℕ} 0 1 = cc in omega arith
 
-pub chosen_out : (b : Bool) (z : ℤ) → choose b (Is z) Outside ≡ Outside → b ≡ false
-chosen_out true z e = absurd (apart e)
-  where
-    apart : ◌≡◌ {A = Computed} (Is z) Outside → ⊥
-    apart p = let q : ◌≡◌ {A = ℕ} 0 1 = cc in omega arith
-chosen_out false z e = refl
+  pub chosen_out : (b : Bool) (z : A) → choose b (Some z) None ≡ None → b ≡ false
+  chosen_out true z e = absurd (apart e)
+    where
+      apart : ◌≡◌ {A = Option A} (Some z) None → ⊥
+      apart p = let q : ◌≡◌ {A = ℕ} 0 1 = cc in omega arith
+  chosen_out false z e = refl
 
 -- ---- two words
 
@@ -75,17 +64,18 @@ module _ (x y : ℤ) (fx : SFits w64 x) (fy : SFits w64 y) where
   same : of_z w64 x ≡ of_z w64 y → x ≡ y
   same e = sym (to_z-of_z w64 x fx) ∙ ap (to_z w64) e ∙ to_z-of_z w64 y fy
 
-  pub differ_same : of_z w64 x ≡ of_z w64 y → pos 0 ≡ differ x y
+  -- the test of the two words
+  pub differ_word : {r : ℤ} → r ≡ pos (bool_byte (not (eqb (of_z w64 x) (of_z w64 y)))) → kept r ≡ differ x y
   unfolding differ
-  differ_same e = rw (same e, eq_z_refl y)
-
-  pub differ_other : (of_z w64 x ≡ of_z w64 y → ⊥) → pos 1 ≡ differ x y
-  unfolding differ
-  differ_other apart = known (decide (eq_z x y))
+  differ_word e = truth_back _ _ e (ap not (by (decide (eqb (of_z w64 x) (of_z w64 y)))))
     where
-      known : (eq_z x y ≡ true) ⊎ (eq_z x y ≡ false) → pos 1 ≡ bit (not (eq_z x y))
-      known (inl e) = absurd (apart (ap (of_z w64) (eq_z_true x y e)))
-      known (inr e) = rw e
+      by : (eqb (of_z w64 x) (of_z w64 y) ≡ true) ⊎ (eqb (of_z w64 x) (of_z w64 y) ≡ false) → eqb (of_z w64 x) (of_z w64 y) ≡ eq_z x y
+      by (inl e) = rw (e, same (eqb-true _ _ e), eq_z_refl y)
+      by (inr e) = known (decide (eq_z x y))
+        where
+          known : (eq_z x y ≡ true) ⊎ (eq_z x y ≡ false) → eqb (of_z w64 x) (of_z w64 y) ≡ eq_z x y
+          known (inl t) = absurd (eqb-false _ _ e (ap (of_z w64) (eq_z_true x y t)))
+          known (inr t) = rw (e, t)
 
   -- whether two truths differ, as it is handed on
   pub differ_kept : {r : ℤ} → r ≡ differ (kept x) (kept y) → kept r ≡ differ x y
@@ -112,15 +102,3 @@ module _ (x y : ℤ) (nx : Near x) (ny : Near y) where
 
   pub difference_kept : kept (kept x -ℤ kept y) ≡ x -ℤ y
   difference_kept = to_z-of_z w64 _ difference_fits ∙ both_near (λ a b. a -ℤ b)
-
-  -- ---- a value moved by its change
-
-  module _ (t : Ty) (r : ℤ) (fits : SFits w64 r) (is : r ≡ plus t (kept x) (kept y)) where
-    new : kept r ≡ plus t x y
-    new = to_z-of_z w64 r fits ∙ is ∙ both_near (plus t)
-
-    pub moved_out : in_type t (kept r) ≡ false → Outside ≡ moved_as t x y
-    moved_out e = rw (ap (in_type t) (sym new) ∙ e)
-
-    pub moved_in : in_type t (kept r) ≡ true → Is (kept r) ≡ moved_as t x y
-    moved_in e = rw (ap (in_type t) (sym new) ∙ e) (ap Is new)

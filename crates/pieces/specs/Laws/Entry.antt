@@ -1,7 +1,7 @@
 -- Laws of an entry met: what each test of its three opening words decides, and what it is where all of them pass. The tests are those
 -- of words as the code reads them.
 -- Assumes nothing.
-use Rattle.std.specs.Prelude.{◌≡◌, refl, ◌⊎◌, ℕ, zero, suc, ◌+◌, ◌-◌, ◌≤◌, ◌<◌, Bool, List, [], ◌∷◌, length, eqb, ℤ, pos, negsuc}
+use Rattle.std.specs.Prelude.{◌≡◌, refl, ◌⊎◌, ℕ, zero, suc, ◌+◌, ◌-◌, ◌≤◌, ◌<◌, Bool, List, [], ◌∷◌, length, eqb, ℤ, pos, negsuc, Some, None, Ok, Err}
 use Rattle.std.proofs.Math.Path.{sym, ap, ap₂}
 use Rattle.std.proofs.Common.{◌∙◌, inl, inr, arith, true≢false, le-leb, ltb-true, ltb-false, eqb-true}
 use Rattle.std.proofs.Math.Bool.{true, false}
@@ -16,11 +16,13 @@ use Rattle.rules.specs.Run.{most_steps}
 use Rattle.rules.specs.Patch.{Cut, cut, ends, meet}
 use Rattle.rules.proofs.Laws.Call.{in_limits_lem}
 use Rattle.rules.proofs.Laws.Entry.{cut_back}
+use Rattle.table.specs.Agrees.{agrees_ok, agrees_err}
+use Rattle.table.specs.declared.answer.Refusal.TheVariants.{Broken}
+use Rattle.run.specs.Call.{limited}
 use Rattle.pieces.specs.Old.{part, Inside}
 use Rattle.pieces.specs.Laws.Old.{part_long, part_none, part_next, part_split}
 use Rattle.pieces.specs.Entry.{ends_at, MetAs}
-use Rattle.pieces.specs.declared.entry.Met.{Met}
-use Rattle.pieces.specs.declared.entry.Met.TheVariants.{Is, Broken}
+use Rattle.pieces.specs.Laws.Changes.{chosen_in, chosen_out}
 
 -- ---- words cut off
 
@@ -118,11 +120,11 @@ three old from end opens inside =
 
 -- the entry met is refused, and the code says so
 abbrev pub IsBroken : ℕ → Bool → List ℤ → ℕ → ℕ → Type 0
-IsBroken node last old from end = MetAs (meet node last (part old from end)) Broken old from end
+IsBroken node last old from end = MetAs (meet node last (part old from end)) (Err Broken) old from end
 
 module _ (node : ℕ) (last : Bool) (old : List ℤ) (from end : ℕ) (inside : Inside old from end) where
   refuses : meet node last (part old from end) ≡ refused broken → IsBroken node last old from end
-  refuses e = rw e (refl, refl)
+  refuses e = agrees_err e refl
 
   pub under_three : end - from < 3 → IsBroken node last old from end
   under_three less = refuses (meet_short node last (part old from end) (omega (arith, part_long old from end inside.ends)))
@@ -182,33 +184,37 @@ module _ (node : ℕ) (last : Bool) (old : List ℤ) (from end : ℕ) (inside : 
           (rw (opened, cut_is, leaves)
           (behind_test (eq_z (at old from) (pos node)) _ (behind_test (le_z (pos 3) (at old (from + 1))) _ refl)))
 
-      pub outside_limits : {word : ℤ} → word ≡ at old (from + 2) → between (pos 1) most_steps word ≡ false → IsBroken node last old from end
+      pub outside_limits : limited (at old (from + 2)) ≡ None → IsBroken node last old from end
       unfolding meet
-      outside_limits is e =
-          let outside : between (pos 1) most_steps (at old (from + 2)) ≡ false = ap (between (pos 1) most_steps) (sym is) ∙ e in
+      outside_limits none =
+          let outside : between (pos 1) most_steps (at old (from + 2)) ≡ false = chosen_out _ _ none in
           refuses
           (rw (opened, cut_is, outside)
           (behind_test (eq_z (at old from) (pos node)) _
           (behind_test (le_z (pos 3) (at old (from + 1))) _ (behind_test (ends last (part old stop end)) _ refl))))
 
-      pub entry_met : {place steps : ℕ} {word : ℤ} → at old from ≡ pos node → place ≡ stop → ends_at last place end ≡ true
-          → word ≡ at old (from + 2) → between (pos 1) most_steps word ≡ true → steps ≡ nat_abs word
-          → MetAs (meet node last (part old from end)) (Is place steps) old from end
+      pub entry_met : {place steps : ℕ} → at old from ≡ pos node → place ≡ stop → ends_at last place end ≡ true → limited (at old (from + 2)) ≡ Some steps
+          → MetAs (meet node last (part old from end)) (Ok (record { stop = place; steps = steps })) old from end
       unfolding meet
-      entry_met here is there read among count =
+      entry_met {place} {steps} here is there read =
           let leaves : ends last (part old stop end) ≡ true = leaves_as is there in
-          let limits : between (pos 1) most_steps (at old (from + 2)) ≡ true = ap (between (pos 1) most_steps) (sym read) ∙ among in
+          let among = chosen_in (between (pos 1) most_steps (at old (from + 2))) (nat_abs (at old (from + 2))) read in
           let same : eq_z (at old from) (pos node) ≡ true = ap (λ (z : ℤ). eq_z z (pos node)) here ∙ eq_z_refl (pos node) in
           let big : le_z (pos 3) (at old (from + 1)) ≡ true = large (at old (from + 1)) sized.low sized.is in
-          rw (opened, same, big, cut_is, leaves, limits)
+          agrees_ok {a = record {
+            steps = nat_abs (at old (from + 2));
+            words = at old from ∷ at old (from + 1) ∷ at old (from + 2) ∷ part old (from + 3) stop;
+            parts = part old (from + 3) stop;
+            behind = part old stop end;
+          }} (rw (opened, same, big, cut_is, leaves, among.0) refl)
+          (rw is
           (record {
-            stop = stop;
-            is = ap₂ {C = Met} Is is (count ∙ ap nat_abs read);
+            steps = among.1;
             opens = omega (arith, sized.low);
             inside = stops_inside;
             words = sym (three old from stop (omega (arith, sized.low)) (omega (arith, stops_inside, inside.ends)));
             parts = refl;
             behind = refl;
-            some = (in_limits_lem (at old (from + 2)) limits).1;
-            most = (in_limits_lem (at old (from + 2)) limits).2;
-          })
+            some = (in_limits_lem (at old (from + 2)) among.0).1;
+            most = (in_limits_lem (at old (from + 2)) among.0).2;
+          }))

@@ -1,6 +1,6 @@
 -- Laws of an entry skipped: what the skip rule leaves.
 -- Assumes nothing.
-use Rattle.std.specs.Prelude.{◌≡◌, refl, ℕ, ◌+◌, ◌-◌, ◌≤◌, ◌<◌, List, ℤ}
+use Rattle.std.specs.Prelude.{◌≡◌, refl, ℕ, ◌+◌, ◌-◌, ◌≤◌, ◌<◌, List, ℤ, Ok, Err}
 use Rattle.std.proofs.Common.{sym, ◌∙◌, arith, le-leb}
 use Rattle.std.proofs.Math.Path.{ap}
 use Rattle.std.proofs.Math.ListN.{length}
@@ -8,16 +8,17 @@ use Rattle.std.proofs.lemmas.Bool.{lt-leb}
 use Rattle.numbers.specs.Lay.{lay}
 use Rattle.rules.specs.Outcome.{accepted, refused, fuel_spent}
 use Rattle.rules.specs.Patch.{Entry, Visited, skipped, steps_of, all_reused}
+use Rattle.table.specs.Agrees.{agrees_ok, agrees_err}
+use Rattle.table.specs.declared.answer.Refusal.TheVariants.{Fuel}
 use Rattle.pieces.specs.Old.{part, Inside}
 use Rattle.pieces.specs.Laws.Old.{part_long}
-use Rattle.pieces.specs.Entry.{Sound, VisitAs}
+use Rattle.pieces.specs.Entry.{Sound, VisitAs, SkipsTo}
 use Rattle.pieces.specs.declared.entry.Reached.{Reached}
 
 -- where the walk stands behind an entry of so many steps that it skipped up to the stop
 abbrev pub behind_skipped : ℕ → ℕ → Reached → Reached
 behind_skipped stop steps s =
     record {
-      outcome = s.outcome;
       changes = s.changes;
       left = s.left - steps;
       walked = s.walked;
@@ -26,9 +27,13 @@ behind_skipped stop steps s =
       at = s.at + (stop - s.from);
     }
 
-pub skip_short : (e : Entry) (left : ℕ) (changes : List ℤ) → left < e.steps → skipped e left changes ≡ refused fuel_spent
+skip_short : (e : Entry) (left : ℕ) (changes : List ℤ) → left < e.steps → skipped e left changes ≡ refused fuel_spent
 unfolding skipped
 skip_short e left changes less = rw (lt-leb e.steps left less)
+
+-- and the walk is stopped
+pub skip_stopped : {old : List ℤ} {stop steps : ℕ} {s : Reached} → s.left < steps → {out after : List ℤ} → SkipsTo old stop steps s (Err Fuel) out after
+skip_stopped {old} {stop} {steps} {s} less = λ end e inside same words behind. agrees_err (skip_short e s.left s.changes.values (omega arith)) refl
 
 -- what the skip rule accepts with
 abbrev visited : Entry → List ℤ → Visited
@@ -42,7 +47,6 @@ module _ (old : List ℤ) (stop end steps : ℕ) (s : Reached) (sound : Sound ol
   skip_sound : Sound old end (behind_skipped stop steps s)
   skip_sound =
       record {
-        goes = sound.goes;
         long = sound.long;
         near = sound.near;
         inside = inside;
@@ -53,11 +57,11 @@ module _ (old : List ℤ) (stop end steps : ℕ) (s : Reached) (sound : Sound ol
   -- the entry's words copied
   pub skip_came : (e : Entry) (out : List ℤ) {after : List ℤ} → e.steps ≡ steps → e.words ≡ part old s.from stop → e.behind ≡ part old stop end
       → after ≡ lay out s.at (part old s.from stop)
-      → VisitAs (skipped e s.left s.changes.values) s (behind_skipped stop steps s) old end out after
+      → VisitAs (skipped e s.left s.changes.values) s (Ok (behind_skipped stop steps s)) old end out after
   unfolding steps_of all_reused
   skip_came e out same words behind lays =
       let long : length e.words ≡ stop - s.from = ap length words ∙ part_long old s.from stop sound.inside.ends in
-      rw (skip_goes e s.left s.changes.values (omega arith))
+      agrees_ok (skip_goes e s.left s.changes.values (omega arith))
       (record {
         sound = skip_sound;
         changes = refl;

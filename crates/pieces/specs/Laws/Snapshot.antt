@@ -1,55 +1,39 @@
 -- Laws of snapshots in the old record: where one is read it stands there whole, and what it takes of the changes is each word plus its
 -- own; the store it makes is fine, and the changes that are settled against it are near.
 -- Assumes nothing.
-use Rattle.std.specs.Prelude.{◌≡◌, Bool, true, false, not, ◌⊎◌, ℕ, zero, suc, ◌+◌, ◌-◌, ◌*◌, ◌≤◌, ◌<◌, ltb, length, get_or, ℤ}
-use Rattle.std.proofs.Common.{sym, ap, ◌∙◌, subst, inl, inr, ⊎_elim, arith, add-zero}
-use Rattle.std.proofs.Math.Option.{some}
+use Rattle.std.specs.Prelude.{◌≡◌, true, false, ◌⊎◌, ℕ, zero, suc, ◌+◌, ◌-◌, ◌≤◌, ◌<◌, ltb, length, get_or, ℤ}
+use Rattle.std.proofs.Common.{sym, ap, ◌∙◌, subst, inl, inr, arith, add-zero}
 use mathlib.Core.List.{List, [], ◌∷◌}
 use borrow.Author.Tests.{ltb-true, ltb-false}
-use Rattle.std.specs.Int.Signed.{mag}
-use Rattle.numbers.specs.Signed.{eq_z}
 use Rattle.numbers.specs.Laws.{decide}
-use Rattle.numbers.specs.Bounds.{mag_sub}
 use Rattle.rules.specs.Outcome.{accepted}
-use Rattle.rules.specs.Value.{Ty, at, type_of, in_type, bit, differ, minus, zeros, most_variables, put, minus_all, snapshot}
+use Rattle.rules.specs.Value.{Ty, at, type_of, in_type, zeros, most_variables, put, minus_all, snapshot}
 use Rattle.rules.specs.Table.{types_of, Part}
 use Rattle.rules.specs.Patch.{Snapshot, read, read_in, read_snapshot, moved_all}
 use Rattle.rules.proofs.Laws.Outcome.{Holds, value, vacant, holds_bind, holds_if, holds_of}
-use Rattle.rules.proofs.Laws.Value.{truth_cases}
 use Rattle.rules.proofs.Laws.Store.{Good}
-use Rattle.rules.proofs.Laws.Parts.{part_at}
 use Rattle.rules.proofs.Laws.Rising.{Below}
-use Rattle.table.specs.Lists.{list_at, Lists, ListOf}
-use Rattle.run.specs.Laws.Numbers.{mag_in}
+use Rattle.std.proofs.Math.Option.{some}
+use Rattle.rules.proofs.Laws.Parts.{part_at}
+use Rattle.table.specs.Lists.{list_at, Row, Lists}
+use Rattle.table.specs.Laws.Row.{row_low}
+use Rattle.run.specs.Laws.Expressions.{mag_of_type}
 use Rattle.pieces.specs.Change.{Near, AllNear}
 use Rattle.pieces.specs.Old.{part, Inside}
 use Rattle.pieces.specs.Snapshot.{Named, olds, Standing, Patched, patched}
 use Rattle.pieces.specs.Laws.Old.{part_none, part_long, part_next, part_at_lem}
+use Rattle.pieces.specs.Laws.Expression.{near_minus}
 use Rattle.pieces.specs.Laws.Climbing.{Climbs, vars_climb, put_back}
 use Rattle.pieces.specs.Laws.Moved.{set_each, zeros_long}
 pub use Rattle.pieces.specs.Laws.Moved.{moved_plus, moved_long, started_fine}
 
 -- ---- near words
 
-in_small : (t : Ty) (z : ℤ) → in_type t z ≡ true → mag z < 2_147_483_648
-in_small Ty.number z h = mag_in z h
-in_small Ty.truth z h = ⊎_elim (λ e. rw e (omega arith)) (λ e. rw e (omega arith)) (truth_cases z h)
-
 pub in_near : (t : Ty) (z : ℤ) → in_type t z ≡ true → Near z
-in_near t z h = omega (arith, in_small t z h)
+in_near t z h = omega (arith, mag_of_type t z h)
 
 pub good_near : (types : List Ty) (store : List ℤ) → Good types store → AllNear store
 good_near types store good v = in_near (type_of types v) (at store v) (good v)
-
-bit_near : (b : Bool) → Near (bit b)
-bit_near true = omega arith
-bit_near false = omega arith
-
--- the change from a value of a type to another
-minus_near : (t : Ty) (new old : ℤ) → in_type t new ≡ true → in_type t old ≡ true → Near (minus t new old)
-unfolding minus differ
-minus_near Ty.number new old hn ho = omega (arith, mag_sub new old, mag_in new hn, mag_in old ho)
-minus_near Ty.truth new old hn ho = bit_near (not (eq_z new old))
 
 -- ---- where a snapshot is read
 
@@ -155,24 +139,34 @@ olds_long bytes lists node old from s =
     let count : from + length (list_at lists node) - from ≡ length (list_at lists node) = omega arith in
     part_long old from (from + length (list_at lists node)) s.inside ∙ count
 
--- ---- the store that it makes
+-- ---- the variables that a node mentions
 
--- the variables of a node's list have a place in the store
-list_known : (bytes lists : List ℕ) (node : ℕ) (q : Part) → ListOf bytes lists node q → length (types_of bytes) ≤ 32
-    → Below (length (zeros most_variables)) (list_at lists node)
-unfolding most_variables
-list_known bytes lists node q l few i h =
-    let below : i < get_or lists (33 * node) 0 = omega (arith, l.count, ap length l.list) in
-    let named : get_or (list_at lists node) i 0 ≡ get_or lists (33 * node + 1 + i) 0 = ap (λ (vs : List ℕ). get_or vs i 0) l.list ∙ sym (l.item i below) in
-    omega (arith, l.row.low i below, named, zeros_long)
+module _ (bytes lists : List ℕ) (node : ℕ) (named : Named bytes lists node) where
+  -- each is a variable of the table
+  pub listed_known : (i : ℕ) → i < length (list_at lists node) → get_or (list_at lists node) i 0 < length (types_of bytes)
+  listed_known i h = row_low named.row i h
+
+  pub listed_below : (i : ℕ) → i < length (list_at lists node) → get_or (list_at lists node) i 0 < 32
+  listed_below i h = omega (arith, row_low named.row i h, named.few)
+
+-- it lies in its row
+pub named_row : {bytes lists : List ℕ} {node : ℕ} → Named bytes lists node → Row 32 lists node
+named_row named = record {
+  long = named.row.long;
+  inside = named.row.inside;
+  few = named.row.few;
+  low = λ i h. omega (arith, named.row.low i h, named.few);
+}
 
 -- a node's list rises, so what is put of it is read back
 pub started_back : (bytes lists : List ℕ) → Lists bytes lists → (node : ℕ) (q : Part) → part_at bytes node ≡ some q → (news : List ℤ)
     → length news ≡ length (list_at lists node) → snapshot (list_at lists node) (put (list_at lists node) news (zeros most_variables)) ≡ news
+unfolding most_variables
 started_back bytes lists every node q e news many =
     let l = every.each node q e in
     let climbs : Climbs 0 (list_at lists node) = subst (Climbs 0) (sym l.list) (vars_climb q) in
-    put_back climbs news (zeros most_variables) (list_known bytes lists node q l every.few) many
+    let known : Below (length (zeros most_variables)) (list_at lists node) = λ i h. omega (arith, row_low l.row i h, every.few, zeros_long) in
+    put_back climbs news (zeros most_variables) known many
 
 -- ---- the changes settled against it
 
@@ -184,7 +178,7 @@ module _ (types : List Ty) (store : List ℤ) (good : Good types store) where
   put_near (v ∷ vs) [] fits changes near = near
   put_near (v ∷ vs) (o ∷ os) fits changes near =
       put_near vs os (λ i h. fits (suc i) (omega arith)) _
-      (set_each (λ w z. Near z) changes near v _ (minus_near (type_of types v) (at store v) o (good v) (fits 0 (omega arith))))
+      (set_each (λ w z. Near z) changes near v _ (near_minus (type_of types v) (at store v) o (good v) (fits 0 (omega arith))))
 
 pub settled_near : (bytes lists : List ℕ) (node : ℕ) (old : List ℤ) (from : ℕ) → Standing bytes lists node old from → (store : List ℤ)
     → Good (types_of bytes) store

@@ -1,6 +1,6 @@
 -- A record completed: the header, the inputs and the outputs come to stand in front of the root's entry, and zeros behind it.
 -- Assumes nothing.
-use Rattle.std.proofs.Math.Path.{◌≡◌, sym, ap, ap₂}
+use Rattle.std.proofs.Math.Path.{◌≡◌, refl, sym, ap, ap₂}
 use Rattle.std.proofs.Common.{◌∙◌, arith, length-append, length-take-le}
 use Rattle.std.specs.Prelude.{ℕ, ◌+◌, ◌-◌, ◌*◌, ◌≤◌, drop, ℤ, pos}
 use mathlib.Core.List.{List, ◌∷◌, ◌++◌}
@@ -56,8 +56,16 @@ all_fresh_lem : (n : ℕ) → steps_of (all_fresh n) ≡ n
 unfolding steps_of all_fresh
 all_fresh_lem n = omega arith
 
-module _ {v : ℕ} {inputs : List ℤ} {limit : ℕ} {ran : Ran} {now : List ℤ} (h : Completable v inputs limit ran now) where
-  module _ (d : Done) (out : List ℤ) (e : EndedAs d ran out limit (3 + 2 * v) now) where
+module _ {inputs : List ℤ} {limit : ℕ} {ran : Ran} {now : List ℤ} (h : Completable inputs limit ran now) where
+  abbrev v : ℕ
+  v = length inputs
+
+  -- the first of the values are few enough
+  pub outputs_few : length (take v ran.store.values) ≤ most_variables
+  unfolding most_variables
+  outputs_few = omega (arith, h.few, h.long, length-take-le v ran.store.values (omega (arith, h.few, h.long)))
+
+  module _ (d : Done) (out : List ℤ) (e : EndedAs out limit (3 + 2 * v) now d ran) where
     abbrev outputs : List ℤ
     outputs = take v d.store
 
@@ -71,33 +79,26 @@ module _ {v : ℕ} {inputs : List ℤ} {limit : ℕ} {ran : Ran} {now : List ℤ
     words = record_of limit d.steps inputs outputs d.words
 
     long : ran.at ≡ length words
-    long = omega (arith, e.ends, record_long limit d.steps inputs outputs d.words, h.each, outputs_long)
+    long = omega (arith, e.ends, record_long limit d.steps inputs outputs d.words, outputs_long)
 
     long_body : ran.at ≡ headed + length (inputs ++ (outputs ++ d.words))
-    long_body = omega (arith, e.ends, h.each, outputs_long, length-append inputs (outputs ++ d.words), length-append outputs d.words)
+    long_body = omega (arith, e.ends, outputs_long, length-append inputs (outputs ++ d.words), length-append outputs d.words)
 
     out_long : length now ≡ length out
     out_long = ap length e.lays ∙ length_lay out (3 + 2 * v) d.words
 
-    -- the first v of the padded outputs
-    firsts : {values : List ℤ} → values ≡ padded (take v ran.store.values) → take v values ≡ outputs
-    unfolding padded
-    firsts is = ap (take v) (is ∙ ap (λ (l : List ℤ). padded (take v l)) e.stores) ∙ ap (λ (n : ℕ). take n (padded outputs)) (sym outputs_long)
-        ∙ take-append_seam outputs (zeros (most_variables - length outputs))
-
-    pub buffer_is : {three four five after values : List ℤ}
-        → three ≡ set (set (set now 0 (pos ran.at)) 1 (pos limit)) 2 (pos (limit - ran.left)) → four ≡ lay three 3 inputs
-        → five ≡ lay four (3 + v) (take v values)
-        → values ≡ padded (take v ran.store.values) → after ≡ take ran.at five ++ zeros (length five - ran.at)
+    pub buffer_is : {three four five after : List ℤ} {behind : ℕ}
+        → three ≡ set (set (set now 0 (pos ran.at)) 1 (pos limit)) 2 (pos (limit - ran.left)) → four ≡ lay three 3 inputs → behind ≡ 3 + v
+        → five ≡ lay four behind (take v ran.store.values) → after ≡ take ran.at five ++ zeros (length five - ran.at)
         → after ≡ (answered (length now) (accepted (finished v inputs limit d))).buffer
     unfolding answered record_of
-    buffer_is {five = five} a₃ a₄ a₅ is a₆ =
+    buffer_is {five = five} {behind = behind} a₃ a₄ place a₅ a₆ =
         let laid : five ≡ lay out 0 words
-        = a₅ ∙ ap₂ {C = List ℤ} (λ (l ws : List ℤ). lay l (3 + v) ws)
+        = a₅ ∙ ap₂ {C = List ℤ} (λ (l ws : List ℤ). lay l behind ws)
         (a₄ ∙ ap (λ (l : List ℤ). lay l 3 inputs) (a₃ ∙ ap₂ {C = List ℤ} (λ (l : List ℤ) (n : ℕ). set l 2 (pos n)) (ap (λ (l : List ℤ). set l 1 (pos limit))
-        (ap₂ {C = List ℤ} (λ (l : List ℤ) (n : ℕ). set l 0 (pos n)) e.lays long_body)) steps_are)) (firsts is)
-        ∙ record_laid out inputs outputs d.words (pos (headed + length (inputs ++ (outputs ++ d.words)))) (pos limit) (pos d.steps) v
-        h.each outputs_long in
+        (ap₂ {C = List ℤ} (λ (l : List ℤ) (n : ℕ). set l 0 (pos n)) e.lays long_body)) steps_are)) (ap (take v) e.stores)
+        ∙ ap (λ (i : ℕ). lay (lay (set (set (set (lay out (3 + 2 * v) d.words) 0 (pos (headed + length (inputs ++ (outputs ++ d.words))))) 1 (pos limit)) 2 (pos d.steps)) 3 inputs) i outputs) place
+        ∙ record_laid out inputs outputs d.words (pos (headed + length (inputs ++ (outputs ++ d.words)))) (pos limit) (pos d.steps) v refl outputs_long in
         let fits : length words ≤ length out = omega (arith, h.room, long, out_long) in
         let same : length five ≡ length now = ap length laid ∙ length_lay out 0 words ∙ sym out_long in
         a₆ ∙ ap₂ {C = List ℤ} (λ (n m : ℕ). take n five ++ zeros (m - n)) long same

@@ -1,17 +1,18 @@
--- What fits: a value its type's range, by the byte of the table that names the type; a call's input the table, one value for each
+-- What fits: a value a range, as the order of words says; a call's input the table, one value for each
 -- variable, each in its type; a limit the steps that a call may have.
 -- Assumes nothing.
-use Rattle.std.specs.Prelude.{◌≡◌, refl, ℕ, zero, suc, ◌+◌, ◌≤◌, ◌<◌, Bool, true, false, ◌&&◌, List, length, get_or, take, drop, ℤ, pos, negsuc, nat_abs, T, ltb}
-use Rattle.std.proofs.Common.{sym, ◌∙◌, subst, arith, true≢false, ⊎_elim, take_all, get_or-take, ltb-true, ltb-false, Fits, SFits, to_z, of_z}
+use Rattle.std.specs.Prelude.{◌≡◌, refl, ℕ, ◌+◌, ◌≤◌, ◌<◌, Bool, true, false, ◌&&◌, List, length, get_or, take, drop, ℤ, pos, negsuc, nat_abs, T, cond, leb, ltb}
+use Rattle.std.proofs.Common.{sym, ◌∙◌, subst, arith, true≢false, ⊎_elim, take_all, get_or-take, le-leb, ltb-true, ltb-false, is_le, Less, Greater, Equal, Fits, SFits, to_z, of_z}
 use Rattle.std.proofs.Math.Path.{ap, ap₂}
 use Rattle.std.proofs.Math.ListN.{length-drop, length-map, get_or-map, get_or-eq_default}
 use Rattle.std.proofs.Math.Seq.{length-take-le, get_or-drop}
-use Rattle.std.specs.Int.Signed.{le_z, non_neg}
+use Rattle.std.specs.Int.Signed.{lt_z, le_z, non_neg}
 use mir.Syntax.{w64}
 use Rattle.std.proofs.lemmas.Int.{to_z-of_z}
+use Rattle.std.proofs.lemmas.Bool.{lt-leb}
 use Rattle.numbers.specs.Signed.{between}
 use Rattle.numbers.specs.Laws.{decide}
-use Rattle.rules.specs.Value.{Ty, lowest, highest, in_type, at, type_of, fit}
+use Rattle.rules.specs.Value.{Ty, in_type, at, type_of, fit}
 use Rattle.rules.specs.Table.{u16, header_length, variables, nodes_at, type_bytes, ty_of, types_of}
 use Rattle.rules.specs.Run.{most_steps}
 use Rattle.rules.proofs.Laws.Value.{zero_in}
@@ -20,31 +21,36 @@ use Rattle.rules.proofs.Laws.Call.{fit_long, fit_good, good_fit, in_limits_lem}
 
 -- ---- the range of a type
 
-module _ (low high value : ℤ) (fl : SFits w64 low) (fh : SFits w64 high) (fv : SFits w64 value) where
-  reach : le_z (to_z w64 (of_z w64 low)) (to_z w64 (of_z w64 value)) ≡ le_z low value
-  reach = ap₂ {C = Bool} le_z (to_z-of_z w64 low fl) (to_z-of_z w64 value fv)
+-- whether one word is at most another, as their order says
+abbrev at_most : ℤ → ℤ → Bool
+at_most x y = is_le (cond (lt_z x y) Less (cond (lt_z y x) Greater Equal))
 
-  pub within_both : le_z (to_z w64 (of_z w64 low)) (to_z w64 (of_z w64 value)) ≡ true
-      → le_z (to_z w64 (of_z w64 value)) (to_z w64 (of_z w64 high)) ≡ between low high value
-  unfolding between
-  within_both e = ap₂ {C = Bool} le_z (to_z-of_z w64 value fv) (to_z-of_z w64 high fh) ∙ ap (λ (b : Bool). b && le_z value high) (sym e ∙ reach)
+by_order : (p q r : Bool) → (p ≡ true → r ≡ true) → (q ≡ true → r ≡ false) → (p ≡ false → q ≡ false → r ≡ true)
+    → is_le (cond p Less (cond q Greater Equal)) ≡ r
+by_order true q r a b c = sym (a refl)
+by_order false true r a b c = sym (b refl)
+by_order false false r a b c = sym (c refl refl)
 
-  pub within_not : le_z (to_z w64 (of_z w64 low)) (to_z w64 (of_z w64 value)) ≡ false → false ≡ between low high value
-  unfolding between
-  within_not e = ap (λ (b : Bool). b && le_z value high) (sym e ∙ reach)
+at_most_is : (x y : ℤ) → at_most x y ≡ le_z x y
+at_most_is (pos m) (pos n) = by_order (ltb m n) (ltb n m) (leb m n) (λ e. le-leb m n (omega (arith, ltb-true m n e))) (λ e. lt-leb m n (ltb-true n m e))
+    (λ e f. le-leb m n (ltb-false n m f))
+at_most_is (pos m) (negsuc n) = refl
+at_most_is (negsuc m) (pos n) = refl
+at_most_is (negsuc m) (negsuc n) = by_order (ltb n m) (ltb m n) (leb n m) (λ e. le-leb n m (omega (arith, ltb-true n m e))) (λ e. lt-leb n m (ltb-true m n e))
+    (λ e f. le-leb n m (ltb-false m n f))
+
+-- the test of words is that of the values
+pub within_words : (low high value : ℤ) → SFits w64 low → SFits w64 high → SFits w64 value
+    → at_most (to_z w64 (of_z w64 low)) (to_z w64 (of_z w64 value)) && at_most (to_z w64 (of_z w64 value)) (to_z w64 (of_z w64 high)) ≡ between low high value
+unfolding between
+within_words low high value fl fh fv =
+    ap₂ {C = Bool} (λ (l v : ℤ). at_most l v && at_most v (to_z w64 (of_z w64 high))) (to_z-of_z w64 low fl) (to_z-of_z w64 value fv)
+    ∙ ap (λ (h : ℤ). at_most low value && at_most value h) (to_z-of_z w64 high fh)
+    ∙ ap₂ {C = Bool} (λ (a b : Bool). a && b) (at_most_is low value) (at_most_is value high)
 
 -- a value passed is read back
 pub between_back : (low high value : ℤ) → SFits w64 value → between low high (to_z w64 (of_z w64 value)) ≡ between low high value
 between_back low high value f = ap (between low high) (to_z-of_z w64 value f)
-
-pub number_range : (kind : ℕ) (z : ℤ) → kind ≡ 0 → between (negsuc 2_147_483_647) (pos 2_147_483_647) z ≡ in_type (ty_of kind) z
-unfolding in_type ty_of lowest highest
-number_range kind z e = ap (λ (k : ℕ). in_type (ty_of k) z) (sym e)
-
-pub truth_range : (kind : ℕ) (z : ℤ) → (kind ≡ 0 → ⊥) → between (pos 0) (pos 1) z ≡ in_type (ty_of kind) z
-unfolding in_type ty_of
-truth_range zero z h = absurd (h refl)
-truth_range (suc n) z h = refl
 
 -- ---- one value for each variable
 

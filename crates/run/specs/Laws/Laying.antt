@@ -1,18 +1,18 @@
--- Words laid down one a turn: a word that is passed is read back as it was, and after i turns the buffer has the first i words;
--- so with zeros to the end, and with words over zeros.
+-- Words laid down one a turn: a word that is passed is read back as it was, and after i turns the buffer has the first i words.
+-- Zeros to the end, and words over zeros.
 -- Assumes nothing.
-use Rattle.std.specs.Prelude.{◌≡◌, ℕ, zero, suc, ◌+◌, ◌-◌, ◌≤◌, ◌<◌, List, ◌++◌, length, set, take, drop, ℤ}
+use Rattle.std.specs.Prelude.{◌≡◌, ℕ, zero, suc, ◌+◌, ◌-◌, ◌≤◌, ◌<◌, List, ◌++◌, length, set, take, drop, replicate, ℤ}
 use Rattle.std.proofs.Math.Path.{refl}
-use Rattle.std.proofs.Common.{sym, ap, ◌∙◌, zero-add, add-one, take_all, SFits, to_z, of_z}
+use Rattle.std.proofs.Common.{sym, ap, ◌∙◌, zero-add, add-one, take_all, length-drop, length-take-le, drop_of_length-le, append-nil, SFits, to_z, of_z}
 use native.Mathlib.Omega.{arith}
 use Rattle.std.proofs.Math.Nat.{zero-sub}
 use Rattle.std.proofs.Math.Numerals.{unary_clauses}
-use Rattle.std.proofs.Math.ListN.{get_or, get_or-replicate}
+use Rattle.std.proofs.Math.ListN.{get_or}
 use Rattle.std.proofs.lemmas.List.{length-replicate}
 use Rattle.std.proofs.Math.IntN.{pos}
 use Rattle.std.specs.Int.{w64}
 use Rattle.std.proofs.lemmas.Int.{to_z-of_z}
-use Rattle.numbers.specs.Lay.{lay, length_lay, lay_take, lay_to_end, lay_inside}
+use Rattle.numbers.specs.Lay.{lay, length_lay, lay_take, lay_inside}
 use Rattle.rules.specs.Value.{zeros, padded, most_variables}
 
 -- the buffer with the first i of the words laid from the place on
@@ -43,37 +43,21 @@ module _ {out₀ : List ℤ} {at : ℕ} {ws : List ℤ} where
 
 -- ---- zeros to the end
 
--- the zeros from a place to the end
-abbrev rest : List ℤ → ℕ → List ℤ
-rest out₀ from = zeros (length out₀ - from)
-
-rest_long : (out₀ : List ℤ) (from : ℕ) → length (rest out₀ from) ≡ length out₀ - from
+-- what `fill` leaves behind a place
+pub cleared_rest : (out : List ℤ) (from : ℕ) {part : List ℤ} → from < length out
+    → part ≡ replicate (length (take (length out - from) (drop from out))) (pos 0)
+    → take from out ++ (part ++ drop (length out - from) (drop from out)) ≡ take from out ++ zeros (length out - from)
 unfolding zeros
-rest_long out₀ from = length-replicate (length out₀ - from) (pos 0)
+cleared_rest out from below is =
+    let rest : length (drop from out) ≡ length out - from = length-drop from out in
+    let many : length (take (length out - from) (drop from out)) ≡ length out - from = length-take-le (length out - from) (drop from out) (omega arith) in
+    rw (is, many, drop_of_length-le (drop from out) {i = length out - from} (omega arith), append-nil) refl
 
--- after the turns up to i, zeros stand from the place to i
-abbrev pub Cleared : List ℤ → ℕ → ℕ → List ℤ → Type 0
-Cleared out₀ from i out = Laid out₀ from (rest out₀ from) (i - from) out
-
-module _ (out₀ : List ℤ) (from : ℕ) where
-  pub cleared_none : Cleared out₀ from from out₀
-  cleared_none =
-      let none : from - from ≡ 0 = omega arith in
-      rw none laid_none
-
-  pub cleared_more : (i : ℕ) {out : List ℤ} → Cleared out₀ from i out → from ≤ i → i < length out₀
-      → Cleared out₀ from (i + 1) (set out i (pos 0))
-  unfolding zeros
-  cleared_more i laid past below =
-      let place : from + (i - from) ≡ i = omega arith in
-      let next : (i - from) + 1 ≡ i + 1 - from = omega arith in
-      let word : get_or (rest out₀ from) (i - from) (pos 0) ≡ pos 0 = get_or-replicate (length out₀ - from) (i - from) (pos 0) (pos 0) (omega arith) in
-      rw (place, next, word) at (laid_more (pos 0) laid (omega (arith, rest_long out₀ from)))
-
-  pub cleared_all : (i : ℕ) {out : List ℤ} → Cleared out₀ from i out → length out₀ ≤ i → out ≡ take from out₀ ++ zeros (length out₀ - from)
-  cleared_all i laid past =
-      laid_all laid (omega (arith, rest_long out₀ from))
-      ∙ lay_to_end out₀ from (rest out₀ from) (rest_long out₀ from)
+pub cleared_none : (out : List ℤ) (from : ℕ) → length out ≤ from → out ≡ take from out ++ zeros (length out - from)
+unfolding zeros
+cleared_none out from past =
+    let none : length out - from ≡ 0 = omega arith in
+    rw (none, append-nil) (sym (take_all from out past))
 
 -- ---- words followed by zeros
 
@@ -82,6 +66,15 @@ unfolding zeros
 drop_zeros zero m = simp unary_clauses
 drop_zeros (suc n) zero = rw (zero-sub (suc n))
 drop_zeros (suc n) (suc m) = simp unary_clauses (drop_zeros n m)
+
+pub start_long : (n : ℕ) → n ≤ most_variables → length (take n (zeros most_variables)) ≡ n
+unfolding zeros
+start_long n few = length-take-le n (zeros most_variables) (rw length-replicate few)
+
+-- what a copy over the start of zeros leaves
+pub copied_padded : (ws : List ℤ) → length ws ≤ most_variables → ws ++ drop (length ws) (zeros most_variables) ≡ padded ws
+unfolding padded
+copied_padded ws few = ap (λ (l : List ℤ). ws ++ l) (drop_zeros (length ws) most_variables)
 
 -- laid over zeros from the start, the words are padded
 pub laid_padded : (ws : List ℤ) → length ws ≤ most_variables → lay (zeros most_variables) 0 ws ≡ padded ws

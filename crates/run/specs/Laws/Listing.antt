@@ -1,29 +1,38 @@
--- The list of a node, byte by byte: as many variables as its first byte says, and each where the code reads it.
+-- The list of a node, as the code goes over it: each variable on it has a value, which is the snapshot's word.
 -- Assumes nothing.
-use Rattle.std.specs.Prelude.{◌≡◌, ℕ, ◌+◌, ◌*◌, ◌<◌, List, length, get_or, ℤ}
-use Rattle.std.proofs.Math.Path.{sym, ap}
-use Rattle.std.proofs.Common.{◌∙◌}
+use Rattle.std.specs.Prelude.{◌≡◌, ℕ, ◌*◌, ◌≤◌, ◌<◌, List, length, get_or, ℤ}
+use Rattle.std.proofs.Common.{sym, ap, arith}
 use Rattle.std.proofs.Math.ListN.{get_or-map}
 use Rattle.rules.specs.Value.{at, snapshot}
-use Rattle.rules.proofs.Laws.Store.{length_snapshot}
-use Rattle.table.specs.Lists.{list_at}
+use Rattle.table.specs.Lists.{Row, list_at}
 use Rattle.table.specs.Laws.Row.{list_long, list_at_lem}
 use Rattle.run.specs.Words.{Listed}
 
 module _ {lists : List ℕ} {node place : ℕ} (listed : Listed lists node place) where
-  pub listed_long : length (list_at lists node) ≡ get_or lists (33 * node) 0
+  listed_long : length (list_at lists node) ≡ get_or lists (33 * node) 0
   listed_long = list_long lists node listed.long listed.inside listed.count
 
-  -- the variable that the code reads has a value
-  pub variable_known : (i : ℕ) → i < get_or lists (33 * node) 0 → get_or lists (33 * node + 1 + i) 0 < 32
-  variable_known i below = rw (list_at_lem lists node i below) at (listed.known i (rw listed_long below))
+  -- the list is short
+  pub listed_narrow : length (list_at lists node) ≤ 32
+  listed_narrow = omega (arith, listed_long, listed.count)
 
-  module _ (values : List ℤ) where
-    pub snapshot_long : length (snapshot (list_at lists node) values) ≡ get_or lists (33 * node) 0
-    snapshot_long = length_snapshot (list_at lists node) values ∙ listed_long
+  -- it lies in its row
+  pub listed_in_row : Row 32 lists node
+  listed_in_row = record {
+    long = listed.long;
+    inside = listed.inside;
+    few = listed.count;
+    low = λ i below. rw (list_at_lem lists node i below) at (listed.known i (rw listed_long below));
+  }
 
-    -- the word that the code reads is the snapshot's
-    pub snapshot_at : (i v : ℕ) → i < get_or lists (33 * node) 0 → v ≡ get_or lists (33 * node + 1 + i) 0
-        → at values v ≡ get_or (snapshot (list_at lists node) values) i (at values 0)
-    unfolding snapshot
-    snapshot_at i v below is = ap (at values) (is ∙ sym (list_at_lem lists node i below)) ∙ sym (get_or-map (at values) (list_at lists node) i 0)
+  -- a variable on the list has a value
+  pub variable_known : {vs : List ℕ} → vs ≡ list_at lists node → (i : ℕ) → i < length vs → get_or vs i 0 < 32
+  variable_known {vs} is i below =
+      let same : get_or vs i 0 ≡ get_or (list_at lists node) i 0 = ap (λ (l : List ℕ). get_or l i 0) is in
+      let inside : i < length (list_at lists node) = omega (arith, ap length is) in
+      omega (arith, listed.known i inside)
+
+-- the word that the code reads is the snapshot's
+pub snapshot_at : (vs : List ℕ) (values : List ℤ) (i : ℕ) → at values (get_or vs i 0) ≡ get_or (snapshot vs values) i (at values 0)
+unfolding snapshot
+snapshot_at vs values i = sym (get_or-map (at values) vs i 0)

@@ -1,11 +1,12 @@
 -- Numbers of the 32-bit range in 64-bit words: a word is read back as it was written, sums, differences and products fit, and the
 -- two tests at the ends of the range are the definition's.
 -- Assumes nothing.
-use Rattle.std.specs.Prelude.{◌≡◌, refl, ℕ, zero, suc, ◌+◌, ◌<◌, Bool, true, false, ◌&&◌, ◌⊎◌, List, set, T, leb, eqb, ℤ, pos, negsuc, nat_abs, ◌+ℤ◌, ◌-ℤ◌, ◌*ℤ◌}
-use Rattle.std.proofs.Common.{sym, ap, ap₂, ◌∙◌, subst, arith, lt_of_le_of_lt, mul-le-mul, true≢false, inl, inr, lit<, Fits, SFits, to_z, of_z, leb-true, le-leb, ltb-true, ltb-false, eq-eqb, ne_eqb}
+use Rattle.std.specs.Prelude.{◌≡◌, refl, ℕ, zero, suc, ◌+◌, ◌<◌, Bool, true, false, ◌&&◌, ◌⊎◌, List, set, leb, eqb, ℤ, pos, negsuc, nat_abs, ◌+ℤ◌, ◌-ℤ◌, ◌*ℤ◌, Some, None}
+use Rattle.std.proofs.Common.{sym, ap, ap₂, ◌∙◌, subst, arith, lt_of_le_of_lt, mul-le-mul, true≢false, inl, inr, lit<, SFits, to_z, of_z, leb-true, le-leb, ltb-true, ltb-false, eq-eqb, ne_eqb}
 use Rattle.std.proofs.lemmas.Bool.{false≢true, lt-leb}
-use Rattle.std.specs.Int.Signed.{mag, non_neg, lt_z}
+use Rattle.std.specs.Int.Signed.{mag, lt_z}
 use Rattle.std.specs.Int.{w64}
+use mir.Val.{bool_byte}
 use Rattle.std.proofs.lemmas.Int.{to_z-of_z, to_z_pos}
 use Rattle.numbers.specs.Signed.{eq_z, between}
 use Rattle.numbers.specs.Laws.{and_left, and_right, and_both, decide, eq_z_true, eq_z_refl}
@@ -13,9 +14,6 @@ use Rattle.numbers.specs.Bounds.{mag_add, mag_sub, mag_mul}
 use Rattle.rules.specs.Value.{Ty, in_type, lowest, highest, bit}
 use Rattle.rules.specs.Tree.{Operator, gives, apply}
 use Rattle.rules.specs.Run.{times}
-use Rattle.rules.specs.Table.{operator}
-use Rattle.rules.proofs.Laws.Parts.{number_of_kind}
-use Rattle.run.specs.declared.number.Computed.TheVariants.{Is as Result, Outside}
 use Rattle.run.specs.Code.{Number, computed_as}
 
 pub mag_in : (z : ℤ) → Number z → mag z < 2_147_483_648
@@ -67,44 +65,15 @@ pub bit_back : (b : Bool) → to_z w64 (of_z w64 (bit b)) ≡ bit b
 bit_back true = refl
 bit_back false = refl
 
--- ---- which operator
-
-same_kind : (o p : Operator) → number_of_kind (operator o) ≡ number_of_kind (operator p) → o ≡ p
-same_kind o p e = sym (of_number o) ∙ ap from_number e ∙ of_number p
-  where
-    from_number : ℕ → Operator
-    from_number n = pick (leb n 4) Operator.add
-        (pick (leb n 5) Operator.subtract (pick (leb n 6) Operator.multiply (pick (leb n 7) Operator.greater Operator.equal)))
-      where
-        pick : Bool → Operator → Operator → Operator
-        pick true a b = a
-        pick false a b = b
-
-    of_number : (o : Operator) → from_number (number_of_kind (operator o)) ≡ o
-    of_number Operator.add = refl
-    of_number Operator.subtract = refl
-    of_number Operator.multiply = refl
-    of_number Operator.greater = refl
-    of_number Operator.equal = refl
-
--- what holds of the operator with this number holds of any operator that has it
-pub of_kind : (P : Operator → Type 0) (p : Operator) {k : ℕ} → k ≡ number_of_kind (operator p) → P p → (o : Operator) → number_of_kind (operator o) ≡ k → P o
-of_kind P p e h o f = subst P (same_kind p o (sym (f ∙ e))) h
-
--- an operator with none of the first four numbers is the last
-pub last_kind : (P : Operator → Type 0) {k : ℕ} → (k ≡ 4 → ⊥) → (k ≡ 5 → ⊥) → (k ≡ 6 → ⊥) → (k ≡ 7 → ⊥) → P Operator.equal
-    → (o : Operator) → number_of_kind (operator o) ≡ k → P o
-last_kind P a b c d h Operator.add e = absurd (a (sym e))
-last_kind P a b c d h Operator.subtract e = absurd (b (sym e))
-last_kind P a b c d h Operator.multiply e = absurd (c (sym e))
-last_kind P a b c d h Operator.greater e = absurd (d (sym e))
-last_kind P a b c d h Operator.equal e = h
-
 -- ---- tests of two numbers
 
--- a truth that was returned
-pub truth_back : {r : ℤ} (b d : Bool) → r ≡ bit b → b ≡ d → to_z w64 (of_z w64 r) ≡ bit d
-truth_back b d e f = ap (λ (z : ℤ). to_z w64 (of_z w64 z)) e ∙ bit_back b ∙ ap bit f
+-- a truth that was made a number
+pub truth_back : {r : ℤ} (b d : Bool) → r ≡ pos (bool_byte b) → b ≡ d → to_z w64 (of_z w64 r) ≡ bit d
+truth_back b d e f = ap (λ (z : ℤ). to_z w64 (of_z w64 z)) (e ∙ of_byte b) ∙ bit_back b ∙ ap bit f
+  where
+    of_byte : (b : Bool) → pos (bool_byte b) ≡ bit b
+    of_byte true = refl
+    of_byte false = refl
 
 module _ (x y : ℤ) (hx : Number x) (hy : Number y) where
   pub greater_plain : lt_z (to_z w64 (of_z w64 y)) (to_z w64 (of_z w64 x)) ≡ lt_z y x
@@ -163,17 +132,17 @@ module _ (o : Operator) (x y z : ℤ) (is : z ≡ apply o x y) (fits : mag z < 9
   back : to_z w64 (of_z w64 z) ≡ apply o x y
   back = to_z-of_z w64 z (word z fits) ∙ is
 
-  outside : in_type (gives o) (apply o x y) ≡ false → Outside ≡ computed_as o x y
+  outside : in_type (gives o) (apply o x y) ≡ false → None ≡ computed_as o x y
   outside e = rw e
 
-  pub outside_below : lt_z (to_z w64 (of_z w64 z)) (negsuc 2_147_483_647) ≡ true → Outside ≡ computed_as o x y
+  pub outside_below : lt_z (to_z w64 (of_z w64 z)) (negsuc 2_147_483_647) ≡ true → None ≡ computed_as o x y
   outside_below h = outside (below_range (gives o) (apply o x y) (ap (λ (w : ℤ). lt_z w (negsuc 2_147_483_647)) (sym back) ∙ h))
 
-  pub outside_above : lt_z (pos 2_147_483_647) (to_z w64 (of_z w64 z)) ≡ true → Outside ≡ computed_as o x y
+  pub outside_above : lt_z (pos 2_147_483_647) (to_z w64 (of_z w64 z)) ≡ true → None ≡ computed_as o x y
   outside_above h = outside (above_range (gives o) (apply o x y) (ap (lt_z (pos 2_147_483_647)) (sym back) ∙ h))
 
   pub inside : lt_z (to_z w64 (of_z w64 z)) (negsuc 2_147_483_647) ≡ false → lt_z (pos 2_147_483_647) (to_z w64 (of_z w64 z)) ≡ false
-      → Result (to_z w64 (of_z w64 z)) ≡ computed_as o x y
+      → Some (to_z w64 (of_z w64 z)) ≡ computed_as o x y
   inside a b =
       let h : Number (apply o x y) = in_range (apply o x y)
       (ap (λ (w : ℤ). lt_z w (negsuc 2_147_483_647)) (sym back) ∙ a) (ap (lt_z (pos 2_147_483_647)) (sym back) ∙ b) in
@@ -210,12 +179,10 @@ below_one_of (negsuc n) h = refl
 pub below_one : (z : ℤ) → SFits w64 z → lt_z (to_z w64 (of_z w64 z)) (pos 1) ≡ true → times z ≡ 0
 below_one z fits h = below_one_of z (ap (λ (w : ℤ). lt_z w (pos 1)) (sym (to_z-of_z w64 z fits)) ∙ h)
 
-from_one_of : (z : ℤ) → mag z < 9_223_372_036_854_775_808 → lt_z z (pos 1) ≡ false → (T (non_neg z) × Fits w64 (nat_abs z)) × (nat_abs z ≡ times z)
+from_one_of : (z : ℤ) → lt_z z (pos 1) ≡ false → nat_abs z ≡ times z
 unfolding times
-from_one_of (pos n) fits h = ((tt, record { fits = omega arith }), refl)
-from_one_of (negsuc n) fits h = absurd (true≢false h)
+from_one_of (pos n) h = refl
+from_one_of (negsuc n) h = absurd (true≢false h)
 
-pub from_one : (z : ℤ) → SFits w64 z → lt_z (to_z w64 (of_z w64 z)) (pos 1) ≡ false
-    → (T (non_neg (to_z w64 (of_z w64 z))) × Fits w64 (nat_abs (to_z w64 (of_z w64 z)))) × (nat_abs (to_z w64 (of_z w64 z)) ≡ times z)
-from_one z fits h = subst (λ (w : ℤ). lt_z w (pos 1) ≡ false → (T (non_neg w) × Fits w64 (nat_abs w)) × (nat_abs w ≡ times z)) (sym (to_z-of_z w64 z fits))
-    (from_one_of z fits.sfits) h
+pub from_one : (z : ℤ) → SFits w64 z → lt_z (to_z w64 (of_z w64 z)) (pos 1) ≡ false → nat_abs (to_z w64 (of_z w64 z)) ≡ times z
+from_one z fits h = subst (λ (w : ℤ). lt_z w (pos 1) ≡ false → nat_abs w ≡ times z) (sym (to_z-of_z w64 z fits)) (from_one_of z) h

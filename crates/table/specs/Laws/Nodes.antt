@@ -1,73 +1,68 @@
--- The nodes as the code meets them: by the place of their bytes, by their fields, and by the number of their kind.
+-- The nodes as the code meets them: by the place of their bytes, and by their fields.
 -- Assumes nothing.
-use Rattle.std.specs.Prelude.{◌≡◌, refl, ℕ, zero, suc, ◌+◌, ◌*◌, ◌≤◌, ◌<◌, List, [], ◌∷◌, length, get_or, drop}
-use Rattle.std.proofs.Common.{ap, ◌∙◌, add-zero, zero-add, add-suc, suc-add, not-suc-le-zero, le_of_suc-le-suc, arith, drop_of_length-le, get_or-drop, drop-cons, drop-drop}
-use Rattle.std.proofs.Math.Option.{Option, none, some}
+use Rattle.std.specs.Prelude.{◌≡◌, refl, ℕ, zero, suc, ◌+◌, ◌*◌, ◌%◌, ◌≤◌, ◌<◌, pos, ◌-ℤ◌, true, false, ltb, List, [], ◌∷◌, length, get_or, drop}
+use Rattle.std.proofs.Common.{ap, ◌∙◌, add-zero, add-suc, not-suc-le-zero, le_of_suc-le-suc, arith, ⊎_elim, drop_of_length-le, get_or-drop, drop-cons, drop-drop}
+use Rattle.std.proofs.lemmas.Int.{ints}
+use Rattle.std.proofs.lemmas.Bool.{ltb-true, ltb-false}
+use Rattle.numbers.specs.Laws.{decide}
+use mir.Syntax.{w32}
+use mir.Val.{to_z}
+use Rattle.std.proofs.Math.Option.{none, some}
 use Rattle.rules.specs.Table as Table
-use Rattle.rules.specs.Table.{byte, u16, header_length, variables, nodes, nodes_at, read_node, nodes_from, nodes_of, Kind, kinds, kind_of}
-use Rattle.table.specs.declared.node.Fields.{Fields}
-use Rattle.table.specs.Sorts.{node_of, form}
+use Rattle.rules.specs.Table.{byte, u16, signed, header_length, variables, nodes, nodes_at, read_node, nodes_from, nodes_of, kind_of}
+use Rattle.rules.proofs.Laws.Parts.{kind_number}
+use Rattle.table.specs.declared.node.Node.{Node}
+use Rattle.table.specs.Kinds.{paper_kind, kind_number_of}
+use Rattle.table.specs.Sorts.{node_of}
 
 -- ---- the fields of a node
 
 -- 16 bits of what is left of the table
-u16_drop : (bytes : List ℕ) (at i : ℕ) → u16 (drop at bytes) i ≡ u16 bytes (at + i)
+pub u16_drop : (bytes : List ℕ) (at i : ℕ) → u16 (drop at bytes) i ≡ u16 bytes (at + i)
 unfolding u16
 u16_drop bytes at i = simp (get_or-drop, add-suc)
 
+pub byte_drop : (bytes : List ℕ) (at : ℕ) → byte (drop at bytes) 0 ≡ byte bytes at
+byte_drop bytes at = simp (get_or-drop, add-zero)
+
+-- four bytes as a signed number
+pub signed_is : (n : ℕ) → n < 4294967296 → to_z w32 n ≡ signed n
+unfolding signed
+signed_is n h =
+    let e : to_z w32 n ≡ pos ((n + 2_147_483_648) % 4_294_967_296) -ℤ pos 2_147_483_648
+    = ⊎_elim
+    (λ (low : ltb n 2_147_483_648 ≡ true). let l = ltb-true n 2_147_483_648 low in omega (arith, ints))
+    (λ (high : ltb n 2_147_483_648 ≡ false). let l = ltb-false n 2_147_483_648 high in rw high (omega (arith, ints)))
+    (decide (ltb n 2_147_483_648)) in
+    e
+
+pub four_bytes : (bytes : List ℕ) (at : ℕ)
+    → byte bytes (at + 4) + byte bytes (at + 5) * 256 + byte bytes (at + 6) * 65536 + byte bytes (at + 7) * 16777216 ≡ u16 bytes (at + 4) + 65536 * u16 bytes (at + 6)
+unfolding u16
+four_bytes bytes at =
+    let e : suc (at + 4) ≡ at + 5 = omega arith in
+    let f : suc (at + 6) ≡ at + 7 = omega arith in
+    rw (e, f) (omega arith)
+
 -- a node is read where its bytes are
-pub node_read_lem : (bytes : List ℕ) (at : ℕ) (x : Fields)
-    → x.kind ≡ byte bytes at → x.tag ≡ byte bytes (at + 1) → x.a ≡ u16 bytes (at + 2) → x.b ≡ u16 bytes (at + 4) → x.c ≡ u16 bytes (at + 6)
-    → node_of x ≡ read_node (drop at bytes)
+pub node_read : (bytes : List ℕ) (at : ℕ) (x : Node)
+    → kind_of (byte bytes at) ≡ some (paper_kind x.kind) → x.tag ≡ byte bytes (at + 1)
+    → x.a ≡ u16 bytes (at + 2) → x.b ≡ u16 bytes (at + 4) → x.c ≡ u16 bytes (at + 6)
+    → (kind_of (read_node (drop at bytes)).kind ≡ some (paper_kind x.kind)) × (node_of x ≡ read_node (drop at bytes))
 unfolding read_node
-node_read_lem bytes at x k t a b c =
-    let k' : x.kind ≡ byte (drop at bytes) 0 = rw (get_or-drop at bytes 0 0, add-zero) k in
+node_read bytes at x k t a b c =
+    let known : kind_of (byte (drop at bytes) 0) ≡ some (paper_kind x.kind) = rw (byte_drop bytes at) k in
+    let k' : kind_number_of x.kind ≡ byte (drop at bytes) 0 = kind_number _ _ known in
     let t' : x.tag ≡ byte (drop at bytes) 1 = rw (get_or-drop at bytes 1 0) t in
     let a' : x.a ≡ u16 (drop at bytes) 2 = rw (u16_drop bytes at 2) a in
     let b' : x.b ≡ u16 (drop at bytes) 4 = rw (u16_drop bytes at 4) b in
     let c' : x.c ≡ u16 (drop at bytes) 6 = rw (u16_drop bytes at 6) c in
-    λ i. record { kind = k' i; tag = t' i; a = a' i; b = b' i; c = c' i }
+    (known, λ i. record { kind = k' i; tag = t' i; a = a' i; b = b' i; c = c' i })
 
--- ---- the forms by number
-
--- what is asked of a tag is a small number
-pub tag_small : (k : Option Kind) → (form k).tag ≤ 3
-unfolding form
-tag_small none = omega arith
-tag_small (some Kind.number_constant) = omega arith
-tag_small (some Kind.truth_constant) = omega arith
-tag_small (some Kind.variable) = omega arith
-tag_small (some (Kind.operator o)) = omega arith
-tag_small (some Kind.skip) = omega arith
-tag_small (some Kind.assign) = omega arith
-tag_small (some Kind.sequence) = omega arith
-tag_small (some Kind.if) = omega arith
-tag_small (some Kind.repeat) = omega arith
-
--- what is said already, and that the number is that of no kind in the list, whose first number is this
-abbrev pub Unlisted : Type 0 → ℕ → ℕ → List (Option Kind) → Type 0
-Unlisted said k first [] = said
-Unlisted said k first (none ∷ ks) = Unlisted said k (suc first) ks
-Unlisted said k first (some kind ∷ ks) = Unlisted (said × (k ≡ first → ⊥)) k (suc first) ks
-
-unlisted_said : (said : Type 0) (k first : ℕ) (ks : List (Option Kind)) → Unlisted said k first ks → said
-unlisted_said said k first [] h = h
-unlisted_said said k first (none ∷ ks) h = unlisted_said said k (suc first) ks h
-unlisted_said said k first (some kind ∷ ks) h = (unlisted_said (said × (k ≡ first → ⊥)) k (suc first) ks h).0
-
-unlisted_none : (said : Type 0) (first i : ℕ) (ks : List (Option Kind)) → Unlisted said (first + i) first ks → get_or ks i none ≡ none
-unlisted_none said first i [] h = refl
-unlisted_none said first zero (none ∷ ks) h = refl
-unlisted_none said first (suc i) (none ∷ ks) h = unlisted_none said (suc first) i ks (rw (add-suc first i, ← suc-add first i) at h)
-unlisted_none said first zero (some kind ∷ ks) h =
-    absurd ((unlisted_said (said × (first + 0 ≡ first → ⊥)) (first + 0) (suc first) ks h).1 (add-zero first))
-unlisted_none said first (suc i) (some kind ∷ ks) h =
-    unlisted_none (said × (suc first + i ≡ first → ⊥)) (suc first) i ks (rw (add-suc first i, ← suc-add first i) at h)
-
--- a number that is none of the kinds' is no kind's
-pub no_kind : (k : ℕ) → Unlisted (Unit {0}) k 0 kinds → kind_of k ≡ none
-unfolding kind_of
-no_kind k h = unlisted_none (Unit {0}) 0 k kinds (rw (zero-add k) h)
+-- and is none where its kind is none
+pub node_unknown : (bytes : List ℕ) (at : ℕ) → kind_of (byte bytes at) ≡ none → kind_of (read_node (drop at bytes)).kind ≡ none
+unfolding read_node
+node_unknown bytes at e = rw (byte_drop bytes at) e
 
 -- ---- the nodes in their order
 

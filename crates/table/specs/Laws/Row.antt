@@ -16,3 +16,9 @@ module _ (lists : List ℕ) (n : ℕ) where
 
 pub row_long : {bound : ℕ} {lists : List ℕ} {n : ℕ} → Row bound lists n → length (list_at lists n) ≡ get_or lists (33 * n) 0
 row_long {bound} {lists} {n} row = list_long lists n row.long row.inside row.few
+
+-- the variables on a list are below the bound
+pub row_low : {bound : ℕ} {lists : List ℕ} {n : ℕ} → Row bound lists n → (i : ℕ) → i < length (list_at lists n) → get_or (list_at lists n) i 0 < bound
+row_low {bound} {lists} {n} row i h =
+    let inside : i < get_or lists (33 * n) 0 = rw (row_long row) at h in
+    rw (list_at_lem lists n i inside) (row.low i inside)

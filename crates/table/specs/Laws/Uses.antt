@@ -1,20 +1,22 @@
 -- Counting uses: field by field, node by node, and what the counts say in the end.
 -- Assumes nothing.
-use Rattle.std.specs.Prelude.{◌≡◌, refl, ℕ, zero, suc, ◌+◌, ◌-◌, ◌*◌, ◌≤◌, ◌<◌, min, true, false, ◌&&◌, List, [], ◌∷◌, ◌++◌, length, get_or, set, drop, replicate, eqb}
-use Rattle.std.proofs.Common.{sym, ap, ◌∙◌, add-zero, zero-add, add_assoc, add-one, arith, ⊎_elim, length-set, get_or-set_same, get_or-set_other}
-use Rattle.std.proofs.Math.Option.{Option, none, some}
+use Rattle.std.specs.Prelude.{◌≡◌, refl, ℕ, zero, suc, ◌+◌, ◌-◌, ◌*◌, ◌≤◌, ◌<◌, min, Bool, true, false, ◌↔◌, ◌⊎◌, List, [], ◌∷◌, ◌++◌, length, get_or, set, take, drop, replicate, eqb}
+use Rattle.std.proofs.Common.{sym, ap, ◌∙◌, add-zero, zero-add, add_assoc, add-one, arith, not-suc-le-zero, ⊎_elim, length-set, length-take-le, get_or-take, get_or-set_same, get_or-set_other}
+use Rattle.std.proofs.Math.Option.{none, some}
 use borrow.Author.Tests.{eq-eqb, ne_eqb, eqb-true, eqb-false}
-use Rattle.numbers.specs.Laws.{decide}
+use Rattle.numbers.specs.Laws.{decide, and_left, and_right}
 use Rattle.rules.specs.Outcome.{choose, use_wrong}
 use Rattle.rules.specs.Table as Table
 use Rattle.rules.specs.Table.{read_node, nodes_of, Kind, number_constant, truth_constant, variable, operator, skip, assign, sequence, if, repeat, kind_of, children_by, children, uses, check_uses}
+use Rattle.table.specs.declared.node.Wanted.{Wanted}
+use Rattle.table.specs.declared.node.Field.{Field}
 use Rattle.table.specs.declared.node.Form.{Form}
 use Rattle.table.specs.Sorts.{form, child_in, children_in}
 use Rattle.table.specs.Told.{Tells, passes, Headed}
 use Rattle.table.specs.Uses.{Counted, all_once}
 use Rattle.table.specs.Laws.Lists.{alike}
 use Rattle.table.specs.Laws.Nodes.{node_next, nodes_end}
-use Rattle.table.specs.Laws.Tests.{here, keep, tells_need}
+use Rattle.table.specs.Laws.Tests.{tells_need, same_test}
 
 -- ---- counts up to 2
 
@@ -53,23 +55,18 @@ counted_one l x a low long e = record {
       (decide (eqb k x));
 }
 
-module _ (l : List ℕ) (rule x : ℕ) where
-  pub field_free : rule ≡ 4 → Counted l (child_in rule x) l
-  unfolding child_in
-  field_free e = rw (eq-eqb rule 4 e) (counted_none l)
+-- the field's child has one more, and is not counted where there is no node with its number
+pub field_counted : (l : List ℕ) (rule : Field) (x a : ℕ) → length l ≡ 512 → (w : Wanted) → rule ≡ Field.Child w → x < 512
+    → min 2 a ≡ min 2 (get_or l x 0 + 1) → Counted l (child_in rule x) (set l x a)
+field_counted l rule x a long w is low e = rw is (counted_one l x a low long e)
 
-  module _ (bound : rule ≡ 4 → ⊥) where
-    pub field_unused : rule ≡ 3 → Counted l (child_in rule x) l
-    unfolding child_in
-    field_unused e = rw (ne_eqb rule 4 bound, eq-eqb rule 3 e) (counted_none l)
+pub field_none : (l : List ℕ) (rule : Field) (x : ℕ) → (rule ≡ Field.Free) ⊎ (rule ≡ Field.Zero) → Counted l (child_in rule x) l
+field_none l rule x h = ⊎_elim (λ e. rw e (counted_none l)) (λ e. rw e (counted_none l)) h
 
-    pub field_far : (rule ≡ 3 → ⊥) → 512 ≤ x → Counted l (child_in rule x) l
-    unfolding child_in
-    field_far used far = rw (ne_eqb rule 4 bound, ne_eqb rule 3 used) (counted_far l x far)
-
-    pub field_counted : (rule ≡ 3 → ⊥) → (a : ℕ) → x < 512 → length l ≡ 512 → min 2 a ≡ min 2 (get_or l x 0 + 1) → Counted l (child_in rule x) (set l x a)
-    unfolding child_in
-    field_counted used a low long e = rw (ne_eqb rule 4 bound, ne_eqb rule 3 used) (counted_one l x a low long e)
+pub field_far : (l : List ℕ) (rule : Field) (x : ℕ) → 512 ≤ x → Counted l (child_in rule x) l
+field_far l Field.Free x far = counted_none l
+field_far l Field.Zero x far = counted_none l
+field_far l (Field.Child w) x far = counted_far l x far
 
 -- ---- one node
 
@@ -90,18 +87,17 @@ pub counted_node : (f : Form) (n : Table.Node) (a b c d : List ℕ) → Counted 
 unfolding children_in
 counted_node f n a b c d p q r = counted_both a b d _ _ p (counted_both b c d _ _ q r)
 
-form_children : (k : Option Kind) (n : Table.Node) → children_in (form k) n ≡ children_by k n
-unfolding form children_in child_in children_by
-form_children none n = refl
-form_children (some number_constant) n = refl
-form_children (some truth_constant) n = refl
-form_children (some variable) n = refl
-form_children (some (operator o)) n = refl
-form_children (some skip) n = refl
-form_children (some assign) n = refl
-form_children (some sequence) n = refl
-form_children (some if) n = refl
-form_children (some repeat) n = refl
+form_children : (k : Kind) (n : Table.Node) → children_in (form k) n ≡ children_by (some k) n
+unfolding children_in children_by
+form_children number_constant n = refl
+form_children truth_constant n = refl
+form_children variable n = refl
+form_children (operator o) n = refl
+form_children skip n = refl
+form_children assign n = refl
+form_children sequence n = refl
+form_children if n = refl
+form_children repeat n = refl
 
 -- ---- all nodes: the counts so far and the uses that are left make up all uses
 
@@ -110,41 +106,47 @@ pub record UsesLeft (bytes : List ℕ) (i : ℕ) (counts : List ℕ) : Type 0 wh
   pub each : (k : ℕ) → k < 512 → min 2 (uses k (children (nodes_of bytes))) ≡ min 2 (get_or counts k 0 + uses k (children (drop i (nodes_of bytes))))
 
 pub left_all : (bytes : List ℕ) → UsesLeft bytes 0 (replicate 512 0)
-left_all bytes = record { long = refl; each = λ k h. ap (min 2) (rw (alike 512 0 k) (sym (zero-add (uses k (children (nodes_of bytes)))))) }
+left_all bytes = record { long = refl; each = λ k h. ap (min 2) (rw (alike {A = ℕ} 512 0 k) (sym (zero-add (uses k (children (nodes_of bytes)))))) }
 
-pub left_less : (bytes : List ℕ) (v n : ℕ) → Headed bytes v n → (i : ℕ) → i < n → (counts after : List ℕ) → UsesLeft bytes i counts
-    → (x : Table.Node) → x ≡ read_node (drop (16 + v + 8 * i) bytes) → (f : Form) → f ≡ form (kind_of x.kind) → Counted counts (children_in f x) after
-    → UsesLeft bytes (i + 1) after
-unfolding children
-left_less bytes v n head i low counts after left x read f f_is counted =
-    let next : drop i (nodes_of bytes) ≡ x ∷ drop (suc i) (nodes_of bytes) = rw read (node_next bytes v n i head.v_is head.n_is low) in
-    let these : children_in f x ≡ children_by (kind_of x.kind) x = rw f_is (form_children (kind_of x.kind) x) in
-    let split : (k : ℕ) → uses k (children (drop i (nodes_of bytes))) ≡ uses k (children_in f x) + uses k (children (drop (suc i) (nodes_of bytes)))
-    = λ k. rw (next, these, uses_append k (children_by (kind_of x.kind) x) (children (drop (suc i) (nodes_of bytes)))) refl in
-    record {
-      long = counted.long ∙ left.long;
-      each = λ k h. left.each k h ∙ ap (min 2) (ap (◌+◌ (get_or counts k 0)) (split k) ∙ sym (add_assoc (get_or counts k 0) (uses k (children_in f x)) _))
-          ∙ sym (capped_add (get_or after k 0) (get_or counts k 0 + uses k (children_in f x)) _ (counted.each k h))
-          ∙ ap (λ j. min 2 (get_or after k 0 + uses k (children (drop j (nodes_of bytes))))) (sym (add-one i));
-    }
+module _ (bytes : List ℕ) (v n : ℕ) (head : Headed bytes v n) (i : ℕ) (low : i < n) (counts : List ℕ) (left : UsesLeft bytes i counts)
+    (x : Table.Node) (read : x ≡ read_node (drop (16 + v + 8 * i) bytes)) where
+  left_less : (after : List ℕ) → Counted counts (children_by (kind_of x.kind) x) after → UsesLeft bytes (i + 1) after
+  unfolding children
+  left_less after counted =
+      let next : drop i (nodes_of bytes) ≡ x ∷ drop (suc i) (nodes_of bytes) = rw read (node_next bytes v n i head.v_is head.n_is low) in
+      let these = children_by (kind_of x.kind) x in
+      let split : (k : ℕ) → uses k (children (drop i (nodes_of bytes))) ≡ uses k these + uses k (children (drop (suc i) (nodes_of bytes)))
+      = λ k. rw (next, uses_append k these (children (drop (suc i) (nodes_of bytes)))) refl in
+      record {
+        long = counted.long ∙ left.long;
+        each = λ k h. left.each k h ∙ ap (min 2) (ap (◌+◌ (get_or counts k 0)) (split k) ∙ sym (add_assoc (get_or counts k 0) (uses k these) _))
+            ∙ sym (capped_add (get_or after k 0) (get_or counts k 0 + uses k these) _ (counted.each k h))
+            ∙ ap (λ j. min 2 (get_or after k 0 + uses k (children (drop j (nodes_of bytes))))) (sym (add-one i));
+      }
+
+  -- a node of a kind has the children of its form
+  pub left_less_node : (k : Kind) → kind_of x.kind ≡ some k → (after : List ℕ) → Counted counts (children_in (form k) x) after → UsesLeft bytes (i + 1) after
+  left_less_node k k_is after counted = left_less after (rw (k_is, ← (form_children k x)) counted)
+
+  -- one of no kind has none
+  pub left_less_none : kind_of x.kind ≡ none → UsesLeft bytes (i + 1) counts
+  unfolding children_by
+  left_less_none k_is = left_less counts (rw k_is (counted_none counts))
 
 -- ---- the counts in the end
 
-pub once_none : (i : ℕ) (counts : List ℕ) → i ≤ 0 → true ≡ all_once i counts
+once_each : (m : ℕ) (counts : List ℕ) → all_once m counts ≡ true → (k : ℕ) → k < m → get_or counts k 0 ≡ 1
 unfolding all_once
-once_none zero counts h = refl
-once_none (suc i) counts h = absurd (omega arith)
+once_each zero counts e k h = absurd (not-suc-le-zero h)
+once_each (suc m) counts e k h = ⊎_elim
+    (λ (same : eqb k m ≡ true). rw (eqb-true k m same) (eqb-true (get_or counts m 0) 1 (and_left (eqb (get_or counts m 0) 1) (all_once m counts) e)))
+    (λ (other : eqb k m ≡ false). once_each m counts (and_right (eqb (get_or counts m 0) 1) (all_once m counts) e) k (omega (arith, eqb-false k m other)))
+    (decide (eqb k m))
 
-once_next : (i : ℕ) (counts : List ℕ) → 0 < i → all_once i counts ≡ (eqb (get_or counts (i - 1) 0) 1 && all_once (i - 1) counts)
+each_once : (m : ℕ) (counts : List ℕ) → ((k : ℕ) → k < m → get_or counts k 0 ≡ 1) → all_once m counts ≡ true
 unfolding all_once
-once_next zero counts h = absurd (omega arith)
-once_next (suc i) counts h = let e : suc i - 1 ≡ i = omega arith in rw e
-
-pub once_right : (i : ℕ) (counts : List ℕ) → 0 < i → get_or counts (i - 1) 0 ≡ 1 → all_once i counts ≡ all_once (i - 1) counts
-once_right i counts h e = once_next i counts h ∙ sym (keep (eqb (get_or counts (i - 1) 0) 1) _ (eq-eqb _ 1 e))
-
-pub once_wrong : (i : ℕ) (counts : List ℕ) → 0 < i → (get_or counts (i - 1) 0 ≡ 1 → ⊥) → false ≡ all_once i counts
-once_wrong i counts h e = here (eqb (get_or counts (i - 1) 0) 1) _ (ne_eqb _ 1 e) ∙ sym (once_next i counts h)
+each_once zero counts h = refl
+each_once (suc m) counts h = rw (eq-eqb (get_or counts m 0) 1 (h m (omega arith))) (each_once m counts (λ k below. h k (omega arith)))
 
 once_told : (m : ℕ) (counts places : List ℕ) → m ≤ 512 → ((k : ℕ) → k < 512 → min 2 (uses k places) ≡ min 2 (get_or counts k 0))
     → Tells use_wrong (check_uses m places) (all_once m counts)
@@ -154,10 +156,16 @@ once_told (suc m) counts places h same =
     rw (capped_one (uses m places) (get_or counts m 0) (same m h))
     (tells_need use_wrong (eqb (get_or counts m 0) 1) _ _ (once_told m counts places (omega arith) same))
 
-pub uses_told : (bytes : List ℕ) (v n : ℕ) → Headed bytes v n → (i : ℕ) → n ≤ i → (counts : List ℕ) → UsesLeft bytes i counts
-    → Tells use_wrong (check_uses (n - 1) (children (nodes_of bytes))) (all_once (n - 1) counts)
+-- the test of all counts but the root's is the check of the uses
+pub uses_told : (bytes : List ℕ) (v n : ℕ) → Headed bytes v n → (i : ℕ) → n ≡ i → (counts : List ℕ) → UsesLeft bytes i counts → (r : Bool)
+    → (r ≡ true) ↔ ((k : ℕ) → k < length (take (n - 1) counts) → get_or (take (n - 1) counts) k 0 ≡ 1) → Tells use_wrong (check_uses (n - 1) (children (nodes_of bytes))) r
 unfolding children uses
-uses_told bytes v n head i end counts left =
-    let nothing : drop i (nodes_of bytes) ≡ [] = nodes_end bytes n i head.n_is end in
+uses_told bytes v n head i end counts left r once =
+    let nothing : drop i (nodes_of bytes) ≡ [] = nodes_end bytes n i head.n_is (omega arith) in
     let few : n - 1 ≤ 512 = omega (arith, head.n_few) in
-    once_told (n - 1) counts (children (nodes_of bytes)) few λ k h. left.each k h ∙ ap (min 2) (rw nothing (add-zero (get_or counts k 0)))
+    let long : length (take (n - 1) counts) ≡ n - 1 = length-take-le (n - 1) counts (omega (arith, left.long)) in
+    let same : (k : ℕ) → k < n - 1 → get_or (take (n - 1) counts) k 0 ≡ get_or counts k 0 = λ k h. get_or-take (n - 1) counts k 0 h in
+    rw (same_test r (all_once (n - 1) counts)
+    (λ e. each_once (n - 1) counts (λ k h. sym (same k h) ∙ once.0 e k (rw long h)))
+    (λ e. once.1 (λ k h. same k (rw long at h) ∙ once_each (n - 1) counts e k (rw long at h))))
+    (once_told (n - 1) counts (children (nodes_of bytes)) few λ k h. left.each k h ∙ ap (min 2) (rw nothing (add-zero (get_or counts k 0))))

@@ -3,20 +3,12 @@
 use mathlib.Core.Path.{refl}
 use Prim.Native.Nat.{◌-◌, ◌<◌}
 use native.Mathlib.Omega.{arith}
-use Rattle.rules.specs.Value.{most_variables}
 use Rattle.run.specs.Laws.Numbers.{three_put}
-use Rattle.patch.proofs.Completing.{inputs_held, outputs_held, counted, buffer_is, answer_is}
+use Rattle.patch.proofs.Completing.{moved_few, counted, buffer_is, answer_is}
 use Rattle.patch.proofs.call.complete.Goals as goal
 
 pub padded-moved-requires : goal.padded-moved-requires
-unfolding most_variables
-padded-moved-requires c = let h = c.requires in (omega (arith, h.few, h.long), h.few)
-
-pub lay_values-requires : goal.lay_values-requires
-lay_values-requires c = inputs_held c.requires
-
-pub lay_values-requires-2 : goal.lay_values-requires-2
-lay_values-requires-2 c = outputs_held c.requires
+padded-moved-requires c = moved_few c.requires
 
 pub overflow_sub-result : goal.overflow_sub-result
 overflow_sub-result c = omega (arith, counted c.requires)
@@ -25,14 +17,13 @@ pub overflow_sub-result-2 : goal.overflow_sub-result-2
 overflow_sub-result-2 c = omega (arith, counted c.requires)
 
 pub returns : goal.returns
-returns c =
+returns c h =
     let s = c.args in
     let r = s.reached in
-    λ h.
     let near : r.at < 9_223_372_036_854_775_808 = omega (arith, h.near) in
     let low : s.limit < 9_223_372_036_854_775_808 = omega (arith, h.low) in
     let fewer : s.limit - r.left < 9_223_372_036_854_775_808 = omega (arith, h.low) in
     let three = three_put s.out.now 0 r.at s.limit (s.limit - r.left) near low fewer c.put.ensures c.put-2.ensures c.put-3.ensures in (
       answer_is h _ refl refl refl refl refl refl refl c.padded-moved.ensures,
-      buffer_is h three c.lay_values.ensures.laid c.lay_values-2.ensures.laid c.clear.ensures,
+      buffer_is h three c.lay_slice-behind.ensures.laid c.lay_slice-behind.ensures.behind c.lay_slice.ensures.laid c.clear.ensures,
     )

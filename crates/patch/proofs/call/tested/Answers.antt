@@ -1,73 +1,50 @@
 -- `patch::call::tested` meets its contract: each test in turn is a test of the definition.
 -- Assumes nothing.
-use mathlib.Core.Path.{◌≡◌, ap, ◌∙◌}
-use Prim.Native.Nat.{◌+◌, ◌*◌, ◌≤◌}
 use native.Mathlib.Omega.{arith}
-use lib.ListN.{length}
-use lib.IntN.{ℤ}
-use mathlib.Core.List.{List}
-use Rattle.rules.specs.Outcome.{accepted}
-use Rattle.rules.specs.Value.{fit}
-use Rattle.rules.specs.Table.{variables, types_of, Program, check}
-use Rattle.rules.specs.Call.{Header, header, inputs_of, legal}
-use Rattle.rules.proofs.Laws.Header.{Sized, sized, types_long}
-use Rattle.run.specs.Laws.Fitting.{count_is}
-use Rattle.patch.proofs.Headers.{Whole, inputs_are}
-use Rattle.patch.proofs.Testing.{check_refused, check_accepted, header_refused, header_accepted, whole, change_refused, all_passed}
+use Rattle.table.specs.Accepted.{AcceptedTable}
+use Rattle.run.specs.Laws.Statements.{refusal_up}
+use Rattle.run.specs.Laws.Tests.{check_accepted}
+use Rattle.patch.proofs.Testing.{check_refused, table_sized, header_refused, inputs_there, legal_asked, change_refused, all_passed}
 use Rattle.patch.proofs.call.tested.Goals as goal
+use Rattle.patch.proofs.call.tested.Goals.{In_ok-check}
 
-pub returns-in_default : goal.returns-in_default
-returns-in_default c = check_refused c.args.t.now c.args.old.now c.args.changes.now c.in_default.is c.check-checked.ensures
+-- the table that is accepted
+table : (c : In_ok-check) → AcceptedTable c.args.t.now
+table c = check_accepted c.args.t.now c.in_ok-check.was c.check.ensures
 
-pub header_fits-requires : goal.header_fits-requires
-header_fits-requires c =
-    let program : (p : Program) × (check c.args.t.now ≡ accepted p) = check_accepted c.args.t.now c.args.old.now c.args.changes.now c.in-Accepted.is c.check-checked.ensures in
-    let size : Sized c.args.t.now = sized c.args.t.now program.0 program.1 in
-    size
+pub returns-in_err-check : goal.returns-in_err-check
+returns-in_err-check c = rw (refusal_up c.from_residual.ensures.1) (check_refused c.args.t.now _ _ c.check.ensures c.in_err-check.was)
 
-pub returns-then-not-header_fits : goal.returns-then-not-header_fits
-returns-then-not-header_fits c =
-    let program : (p : Program) × (check c.args.t.now ≡ accepted p) = check_accepted c.args.t.now c.args.old.now c.args.changes.now c.in-Accepted.is c.check-checked.ensures in
-    header_refused c.args.t.now c.args.old.now c.args.changes.now program.1 c.header_fits.ensures c.if-not-header_fits.true
+pub read_header-requires : goal.read_header-requires
+read_header-requires c = table_sized (table c)
 
-pub pair-v-requires : goal.pair-v-requires
-pair-v-requires c =
-    let program : (p : Program) × (check c.args.t.now ≡ accepted p) = check_accepted c.args.t.now c.args.old.now c.args.changes.now c.in-Accepted.is c.check-checked.ensures in
-    let size : Sized c.args.t.now = sized c.args.t.now program.0 program.1 in
-    omega (arith, size.whole)
+pub returns-in_err-head : goal.returns-in_err-head
+returns-in_err-head c =
+    rw (refusal_up c.from_residual-in_err-head.ensures.1)
+    (header_refused c.args.t.now _ _ (table (goal.at.returns-in_err-head c).In_ok-check) c.read_header.ensures c.in_err-head.was)
+
+pub pair-requires : goal.pair-requires
+pair-requires c = omega (arith, (table_sized (table (goal.at.pair-requires c).In_ok-check)).whole)
 
 pub slice_bounds-legal-end : goal.slice_bounds-legal-end
 slice_bounds-legal-end c =
-    let program : (p : Program) × (check c.args.t.now ≡ accepted p) = check_accepted c.args.t.now c.args.old.now c.args.changes.now c.in-Accepted.is c.check-checked.ensures in
-    let headed : (h : Header) × (header (types_of c.args.t.now) c.args.old.now ≡ accepted h) = header_accepted c.args.t.now c.args.old.now c.args.changes.now program.1 c.header_fits.ensures c.if-not-header_fits.false in
-    let all : Whole (types_of c.args.t.now) c.args.old.now headed.0 = whole c.args.t.now c.args.old.now c.args.changes.now program.1 headed.1 in
-    let there : 3 + 2 * variables c.args.t.now ≤ length c.args.old.now = omega (arith, types_long c.args.t.now program.0 program.1, all.room) in
-    let count : c.pair-v.result ≡ variables c.args.t.now = count_is c.args.t.now c.pair-v.ensures.0 in
-    omega (arith, there, count)
+    omega (
+      arith,
+      inputs_there c.args.t.now c.args.old.now c.args.changes.now (table (goal.at.slice_bounds-legal-end c).In_ok-check)
+          c.read_header.ensures c.in_ok-head.was c.pair.ensures.0,
+    )
 
 pub legal-requires : goal.legal-requires
 legal-requires c =
-    let program : (p : Program) × (check c.args.t.now ≡ accepted p) = check_accepted c.args.t.now c.args.old.now c.args.changes.now c.in-Accepted.is c.check-checked.ensures in
-    let size : Sized c.args.t.now = sized c.args.t.now program.0 program.1 in
-    let count : c.pair-v.result ≡ variables c.args.t.now = count_is c.args.t.now c.pair-v.ensures.0 in
-    let headed : (h : Header) × (header (types_of c.args.t.now) c.args.old.now ≡ accepted h) = header_accepted c.args.t.now c.args.old.now c.args.changes.now program.1 c.header_fits.ensures c.if-not-header_fits.false in
-    let all : Whole (types_of c.args.t.now) c.args.old.now headed.0 = whole c.args.t.now c.args.old.now c.args.changes.now program.1 headed.1 in
-    (size, ap (fit (types_of c.args.t.now)) (inputs_are size c.args.old.now count) ∙ all.inputs)
+    legal_asked c.args.t.now c.args.old.now c.args.changes.now (table (goal.at.legal-requires c).In_ok-check)
+    c.read_header.ensures c.in_ok-head.was c.pair.ensures.0
 
 pub returns-then-not-legal : goal.returns-then-not-legal
 returns-then-not-legal c =
-    let program : (p : Program) × (check c.args.t.now ≡ accepted p) = check_accepted c.args.t.now c.args.old.now c.args.changes.now c.in-Accepted.is c.check-checked.ensures in
-    let headed : (h : Header) × (header (types_of c.args.t.now) c.args.old.now ≡ accepted h) = header_accepted c.args.t.now c.args.old.now c.args.changes.now program.1 c.header_fits.ensures c.if-not-header_fits.false in
-    let size : Sized c.args.t.now = sized c.args.t.now program.0 program.1 in
-    let count : c.pair-v.result ≡ variables c.args.t.now = count_is c.args.t.now c.pair-v.ensures.0 in
-    let answer : c.legal.result ≡ legal (types_of c.args.t.now) (inputs_of (types_of c.args.t.now) c.args.old.now) c.args.changes.now = c.legal.ensures ∙ ap (λ (ws : List ℤ). legal (types_of c.args.t.now) ws c.args.changes.now) (inputs_are size c.args.old.now count) in
-    change_refused c.args.t.now c.args.old.now c.args.changes.now program.1 headed.1 answer c.if-not-legal.true
+    change_refused c.args.t.now _ _ (table (goal.at.returns-then-not-legal c).In_ok-check) c.read_header.ensures c.in_ok-head.was c.pair.ensures.0
+    c.legal.ensures c.if-not-legal.true
 
 pub returns : goal.returns
 returns c =
-    let program : (p : Program) × (check c.args.t.now ≡ accepted p) = check_accepted c.args.t.now c.args.old.now c.args.changes.now c.in-Accepted.is c.check-checked.ensures in
-    let headed : (h : Header) × (header (types_of c.args.t.now) c.args.old.now ≡ accepted h) = header_accepted c.args.t.now c.args.old.now c.args.changes.now program.1 c.header_fits.ensures c.if-not-header_fits.false in
-    let size : Sized c.args.t.now = sized c.args.t.now program.0 program.1 in
-    let count : c.pair-v.result ≡ variables c.args.t.now = count_is c.args.t.now c.pair-v.ensures.0 in
-    let answer : c.legal.result ≡ legal (types_of c.args.t.now) (inputs_of (types_of c.args.t.now) c.args.old.now) c.args.changes.now = c.legal.ensures ∙ ap (λ (ws : List ℤ). legal (types_of c.args.t.now) ws c.args.changes.now) (inputs_are size c.args.old.now count) in
-    all_passed c.args.t.now c.args.old.now c.args.changes.now program.1 headed.1 answer c.if-not-legal.false
+    all_passed c.args.t.now _ _ (table (goal.at.returns c).In_ok-check) c.read_header.ensures c.in_ok-head.was c.pair.ensures.0
+    c.legal.ensures c.if-not-legal.false

@@ -8,20 +8,20 @@ use Rattle.patchlist.proofs.listing.list_table.Goals as goal
 
 pub pair-requires : goal.pair-requires
 pair-requires g c =
-    let size : Sized c.args.table.now = table_sized c.args.table.now c.check-checked.result c.in-Accepted.is c.check-checked.ensures in
+    let size : Sized c.args.table.now = table_sized c.args.table.now c.check.result c.in-Ok.is c.check.ensures in
     omega (arith, size.whole)
 
 pub invariant_of-session-clause-few_variables : goal.invariant_of-session-clause-few_variables
 invariant_of-session-clause-few_variables g c =
-    let size : Sized c.args.table.now = table_sized c.args.table.now c.check-checked.result c.in-Accepted.is c.check-checked.ensures in
+    let size : Sized c.args.table.now = table_sized c.args.table.now c.check.result c.in-Ok.is c.check.ensures in
     omega (arith, size.few, count_is c.args.table.now c.pair.ensures.0)
 
-pub returns-in-Refused : goal.returns-in-Refused
-returns-in-Refused g c =
-    table_refused c.args.table.now c.args.patches c.args.behind.now c.args.last.now c.check-checked.result c.check-checked.ensures
-    c.in-Refused.field-0 c.in-Refused.is
+pub returns-in-Err : goal.returns-in-Err
+returns-in-Err g c =
+    table_refused c.args.table.now c.args.patches c.args.behind.now c.args.last.now c.check.result c.check.ensures
+    c.in-Err.reason c.in-Err.is
 
-pub returns-in-Accepted : goal.returns-in-Accepted
-returns-in-Accepted g c =
-    table_accepted c.args.table.now c.args.patches c.args.behind.now c.args.last.now c.check-checked.result c.check-checked.ensures
-    c.pair.result c.pair.ensures.0 c.in-Accepted.is c.list_words.ensures
+pub returns-in-Ok : goal.returns-in-Ok
+returns-in-Ok g c =
+    table_accepted c.args.table.now c.args.patches c.args.behind.now c.args.last.now c.check.result c.check.ensures
+    c.pair.result c.pair.ensures.0 c.in-Ok.is c.list_words.ensures

@@ -1,70 +1,46 @@
 -- `pieces::expression::recall` meets its contract: each test that fails is one that reading the two words fails at, and `compute` decides.
 -- Assumes nothing.
 use mathlib.Core.Path.{◌≡◌, sym, ◌∙◌}
-use Prim.Native.Nat.{◌+◌, ◌≤◌}
-use native.Mathlib.Omega.{arith}
-use lib.IntN.{ℤ}
+use Prim.Native.Nat.{◌+◌}
 use mir.Syntax.{w64}
 use mir.ValLaws.{to_z-of_z}
 use borrow.Author.Rules.{rules}
 use Rattle.rules.specs.Value.{at}
-use Rattle.run.specs.Code.{Number}
-use Rattle.pieces.proofs.Recalling.{number_by, recalls_short, recalls_left, recalls_right, recalls_none, recalls_are}
+use Rattle.table.specs.Kinds.{paper_operator}
 use Rattle.pieces.specs.Laws.Changes.{kept}
+use Rattle.pieces.proofs.Recalling.{recalls_short, recalls_left, recalls_right, recalls_none, recalls_are}
 use Rattle.pieces.proofs.expression.recall.Goals as goal
+use Rattle.pieces.proofs.expression.recall.Goals.{After-in_type}
+
+-- the two words, as they are read
+left_is : (c : After-in_type) → kept (at c.args.old.now c.args.from) ≡ at c.args.old.now c.args.from
+left_is c = to_z-of_z w64 _ (search rules)
+
+right_is : (c : After-in_type) → kept (at c.args.old.now (c.args.from + 1)) ≡ at c.args.old.now (c.args.from + 1)
+right_is c = to_z-of_z w64 _ (search rules)
 
 pub returns-then-end-from : goal.returns-then-end-from
-returns-then-end-from c o e = recalls_short c.requires c.if-end-from.true o
+returns-then-end-from c = recalls_short (paper_operator c.args.operator) c.requires c.if-end-from.true
 
 pub returns-then-not-in_type : goal.returns-then-not-in_type
-returns-then-not-in_type c o e =
-    let room : c.args.from + 2 ≤ c.args.end = omega arith in
-    let x : ℤ = kept (at c.args.old.now c.args.from) in
-    let is_x : x ≡ at c.args.old.now c.args.from = to_z-of_z w64 _ (search rules) in
-    let y : ℤ = kept (at c.args.old.now (c.args.from + 1)) in
-    let is_y : y ≡ at c.args.old.now (c.args.from + 1) = to_z-of_z w64 _ (search rules) in
-    recalls_left c.requires room is_x is_y
-    (sym c.in_type.ensures ∙ c.if-not-in_type.true) o
+returns-then-not-in_type c =
+    let w = (goal.at.returns-then-not-in_type c).After-in_type in
+    recalls_left (paper_operator c.args.operator) c.requires c.if-end-from.false (left_is w) (right_is w) (sym c.in_type.ensures ∙ c.if-not-in_type.true)
 
 pub returns-then-not-in_type-2 : goal.returns-then-not-in_type-2
-returns-then-not-in_type-2 c o e =
-    let room : c.args.from + 2 ≤ c.args.end = omega arith in
-    let x : ℤ = kept (at c.args.old.now c.args.from) in
-    let is_x : x ≡ at c.args.old.now c.args.from = to_z-of_z w64 _ (search rules) in
-    let y : ℤ = kept (at c.args.old.now (c.args.from + 1)) in
-    let is_y : y ≡ at c.args.old.now (c.args.from + 1) = to_z-of_z w64 _ (search rules) in
-    let number_x : Number x = number_by x (sym c.in_type.ensures ∙ c.if-not-in_type.false) in
-    recalls_right c.requires room is_x is_y number_x
-    (sym c.in_type-2.ensures ∙ c.if-not-in_type-2.true) o
-
-pub compute-result-requires : goal.compute-result-requires
-compute-result-requires c =
-    let x : ℤ = kept (at c.args.old.now c.args.from) in
-    let number_x : Number x = number_by x (sym c.in_type.ensures ∙ c.if-not-in_type.false) in
-    let y : ℤ = kept (at c.args.old.now (c.args.from + 1)) in
-    let number_y : Number y = number_by y (sym c.in_type-2.ensures ∙ c.if-not-in_type-2.false) in
-    (number_x, number_y)
+returns-then-not-in_type-2 c =
+    let w = (goal.at.returns-then-not-in_type-2 c).After-in_type in
+    recalls_right (paper_operator c.args.operator) c.requires c.if-end-from.false (left_is w) (right_is w)
+    (sym c.in_type.ensures ∙ c.if-not-in_type.false) (sym c.in_type-2.ensures ∙ c.if-not-in_type-2.true)
 
 pub returns-in_default : goal.returns-in_default
-returns-in_default c o e =
-    let room : c.args.from + 2 ≤ c.args.end = omega arith in
-    let x : ℤ = kept (at c.args.old.now c.args.from) in
-    let is_x : x ≡ at c.args.old.now c.args.from = to_z-of_z w64 _ (search rules) in
-    let y : ℤ = kept (at c.args.old.now (c.args.from + 1)) in
-    let is_y : y ≡ at c.args.old.now (c.args.from + 1) = to_z-of_z w64 _ (search rules) in
-    let number_x : Number x = number_by x (sym c.in_type.ensures ∙ c.if-not-in_type.false) in
-    let number_y : Number y = number_by y (sym c.in_type-2.ensures ∙ c.if-not-in_type-2.false) in
-    recalls_none c.requires room is_x is_y number_x number_y
-    o (c.compute-result.ensures o e) c.in_default.is
+returns-in_default c =
+    let w = (goal.at.returns-in_default c).After-in_type in
+    recalls_none (paper_operator c.args.operator) c.requires c.if-end-from.false (left_is w) (right_is w)
+    (sym c.in_type.ensures ∙ c.if-not-in_type.false) (sym c.in_type-2.ensures ∙ c.if-not-in_type-2.false) c.compute.ensures c.in_default.is
 
 pub returns : goal.returns
-returns c o e =
-    let room : c.args.from + 2 ≤ c.args.end = omega arith in
-    let x : ℤ = kept (at c.args.old.now c.args.from) in
-    let is_x : x ≡ at c.args.old.now c.args.from = to_z-of_z w64 _ (search rules) in
-    let y : ℤ = kept (at c.args.old.now (c.args.from + 1)) in
-    let is_y : y ≡ at c.args.old.now (c.args.from + 1) = to_z-of_z w64 _ (search rules) in
-    let number_x : Number x = number_by x (sym c.in_type.ensures ∙ c.if-not-in_type.false) in
-    let number_y : Number y = number_by y (sym c.in_type-2.ensures ∙ c.if-not-in_type-2.false) in
-    recalls_are c.requires room is_x is_y number_x number_y
-    o (c.compute-result.ensures o e) c.in-Is.is
+returns c =
+    let w = (goal.at.returns c).After-in_type in
+    recalls_are (paper_operator c.args.operator) c.requires c.if-end-from.false (left_is w) (right_is w)
+    (sym c.in_type.ensures ∙ c.if-not-in_type.false) (sym c.in_type-2.ensures ∙ c.if-not-in_type-2.false) c.compute.ensures c.in-Some.is

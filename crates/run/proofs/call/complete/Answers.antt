@@ -5,15 +5,11 @@ use native.Mathlib.Omega.{arith}
 use Rattle.rules.specs.Value.{zeros, most_variables}
 use Prim.Native.Nat.{◌-◌}
 use Rattle.run.specs.Laws.Numbers.{three_put}
-use Rattle.run.specs.Laws.Completed.{answer_is, buffer_is}
+use Rattle.run.specs.Laws.Completed.{outputs_few, answer_is, buffer_is}
 use Rattle.run.proofs.call.complete.Goals as goal
 
-pub overflow_sub-steps : goal.overflow_sub-steps
-overflow_sub-steps c = omega (arith, c.requires.least)
-
 pub padded-outputs-requires : goal.padded-outputs-requires
-unfolding most_variables
-padded-outputs-requires c = (omega (arith, c.requires.few, c.requires.long), c.requires.few)
+padded-outputs-requires c = outputs_few c.requires
 
 pub returns : goal.returns
 unfolding zeros most_variables
@@ -24,8 +20,8 @@ returns c =
       answer_is c.requires d out e _ refl refl refl refl refl refl c.padded-outputs.ensures refl,
       buffer_is c.requires d out e
           (three_put c.args.out.now 0 size c.args.limit steps (omega (arith, c.requires.near)) (omega (arith, c.requires.low)) (omega (arith, c.requires.low)) c.put.ensures c.put-2.ensures c.put-3.ensures)
+          c.lay_slice-behind.ensures.laid
+          c.lay_slice-behind.ensures.behind
           c.lay_slice.ensures.laid
-          c.lay_values.ensures.laid
-          c.padded-outputs.ensures
           c.clear.ensures,
     )

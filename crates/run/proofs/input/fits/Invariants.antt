@@ -2,13 +2,10 @@
 -- Assumes nothing.
 use mathlib.Core.Path.{◌≡◌}
 use mathlib.Core.Bool.{true}
-use Prim.Native.Nat.{ℕ, ◌≤◌, ◌<◌, ◌-◌}
+use Prim.Native.Nat.{ℕ, ◌<◌}
 use Rattle.rules.specs.Value.{in_type, at}
 use Rattle.run.specs.Laws.Fitting.{type_by}
 use Rattle.run.proofs.input.fits.Given as goal
 
 abbrev pub invariant-loop-i : goal.invariant-loop-i
-invariant-loop-i l = (l.i ≤ l.count) × ((k : ℕ) → k < l.i → in_type (type_by l.t k) (at l.inputs k) ≡ true)
-
-abbrev pub decreases-loop-i : goal.decreases-loop-i
-decreases-loop-i l = l.count - l.i
+invariant-loop-i l = (k : ℕ) → k < l.i → in_type (type_by l.t k) (at l.inputs k) ≡ true

@@ -1,13 +1,14 @@
--- `run::input::in_type` meets its contract: byte 0 has the range of a number, any other that of a truth.
+-- `run::input::in_type` meets its contract: each type has its range.
 -- Assumes nothing.
 use mathlib.Core.Path.{◌∙◌}
-use Rattle.run.specs.Laws.Fitting.{between_back, number_range, truth_range}
+use Rattle.rules.specs.Value.{in_type, lowest, highest}
+use Rattle.run.specs.Laws.Fitting.{between_back}
 use Rattle.run.proofs.input.in_type.Goals as goal
 
-pub returns-then-kind-eq0 : goal.returns-then-kind-eq0
-returns-then-kind-eq0 c =
-    c.within.ensures ∙ between_back _ _ c.args.value c.ranges.value ∙ number_range c.args.kind c.args.value c.if-kind-eq0.true
+pub returns-in-Number : goal.returns-in-Number
+unfolding in_type lowest highest
+returns-in-Number c = rw c.in-Number.is (c.within.ensures ∙ between_back _ _ c.args.value c.ranges.value)
 
-pub returns : goal.returns
-returns c =
-    c.within-2.ensures ∙ between_back _ _ c.args.value c.ranges.value ∙ truth_range c.args.kind c.args.value c.if-kind-eq0.false
+pub returns-in-Truth : goal.returns-in-Truth
+unfolding in_type
+returns-in-Truth c = rw c.in-Truth.is (c.within-in-Truth.ensures ∙ between_back _ _ c.args.value c.ranges.value)

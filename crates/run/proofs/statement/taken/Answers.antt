@@ -8,8 +8,7 @@ use Rattle.run.specs.Laws.Taken.{holds_zero, holds_other}
 use Rattle.run.proofs.statement.taken.Goals as goal
 
 pub returns-then-condition-eq0 : goal.returns-then-condition-eq0
-returns-then-condition-eq0 c =
-    c.child_c.ensures ∙ holds_zero _ _ (sym (to_z-of_z w64 _ c.ranges.condition) ∙ ap (to_z w64) c.if-condition-eq0.true)
+returns-then-condition-eq0 c = holds_zero _ _ (sym (to_z-of_z w64 _ c.ranges.condition) ∙ ap (to_z w64) c.if-condition-eq0.true)
 
 pub returns : goal.returns
-returns c = c.child_b.ensures ∙ holds_other _ _ _ (λ e. c.if-condition-eq0.false (ap (of_z w64) e))
+returns c = holds_other _ _ _ (λ e. c.if-condition-eq0.false (ap (of_z w64) e))

@@ -7,8 +7,5 @@ use Rattle.run.proofs.statement.times.Goals as goal
 pub returns-then-count-lt1 : goal.returns-then-count-lt1
 returns-then-count-lt1 c = sym (below_one c.args.count c.ranges.count c.if-count-lt1.true)
 
-pub overflow_cast-result : goal.overflow_cast-result
-overflow_cast-result c = (from_one c.args.count c.ranges.count c.if-count-lt1.false).0
-
 pub returns : goal.returns
-returns c = (from_one c.args.count c.ranges.count c.if-count-lt1.false).1
+returns c = from_one c.args.count c.ranges.count c.if-count-lt1.false

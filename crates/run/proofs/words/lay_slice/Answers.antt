@@ -4,17 +4,11 @@ use mathlib.Core.Path.{refl}
 use native.Mathlib.Omega.{arith}
 use lib.IntN.{pos}
 use borrow.Author.Rules.{rules}
-use Rattle.run.specs.Laws.Laying.{laid_none, laid_by, laid_all, laid_long}
+use Rattle.run.specs.Laws.Laying.{laid_none, laid_by}
 use Rattle.run.proofs.words.lay_slice.Goals as goal
 
 pub loop-i-init : goal.loop-i-init
-loop-i-init c = (omega arith, laid_none)
+loop-i-init c = laid_none
 
 pub loop-i-preserved : goal.loop-i-preserved
-loop-i-preserved c = (omega arith, laid_by (pos 0) c.loop-i.invariant.1 (omega arith) refl (search rules) c.put.ensures)
-
-pub shape_of-out : goal.shape_of-out
-shape_of-out c = laid_long c.loop-i.invariant.1
-
-pub returns : goal.returns
-returns c = record { laid = laid_all c.loop-i.invariant.1 c.loop-i-test.false; behind = omega arith }
+loop-i-preserved c = laid_by (pos 0) c.loop-i.invariant (omega arith) refl (search rules) c.put.ensures

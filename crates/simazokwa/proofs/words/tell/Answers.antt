@@ -8,8 +8,8 @@ use Rattle.simazokwa.proofs.words.tell.Goals as goal
 pub returns : goal.returns
 returns c =
     record {
-      number = c.number_of-number.ensures;
-      laid = laid_is c.requires c.number_of-number.ensures (omega (arith, c.number_of-number.type_inv))
+      number = c.from-number.ensures;
+      laid = laid_is c.requires c.from-number.ensures (omega (arith, c.from-number.type_inv))
           c.args.words.now (omega arith) (search rules) (search rules)
-          c.lay_slice.ensures.laid c.lay_values.ensures.laid c.lay_values-2.ensures.laid;
+          c.lay_slice.ensures.laid c.lay_slice-2.ensures.laid c.lay_slice-3.ensures.laid;
     }

@@ -1,32 +1,23 @@
--- `table::access::constant` meets its contract: the four bytes, half the range up and round, are below 2^32, so that half the
--- range down fits a signed word and is what `signed` says.
+-- `table::access::constant` meets its contract: the four bytes are B and C, and what they are as a signed number is `signed`.
 -- Assumes nothing.
-use mathlib.Core.Path.{◌≡◌, sym, ap, ap₂, ◌∙◌, subst}
-use Prim.Native.Nat.{ℕ, ◌+◌, ◌*◌, ◌%◌}
+use mathlib.Core.Path.{ap, ◌∙◌}
+use Prim.Native.Nat.{◌+◌}
 use native.Mathlib.Omega.{arith}
-use lib.IntN.{ℤ, pos, sub_ℕ, ◌-ℤ◌}
-use mir.Syntax.{w64}
-use mir.Val.{SFits, to_z}
-use mir.ValLaws.{to_z_pos, to_z-of_z}
-use Rattle.numbers.specs.Bounds.{mag_subℕ}
+use borrow.Author.Rules.{rules}
+use mir.Syntax.{w32, w64}
+use mir.Val.{SFits}
+use mir.ValLaws.{to_z-of_z}
 use Rattle.rules.specs.Table.{read_node, constant_of, signed}
-use Rattle.table.proofs.Fields.{pair_behind}
+use Rattle.table.specs.Laws.Nodes.{u16_drop, signed_is, four_bytes}
 use Rattle.table.proofs.access.constant.Goals as goal
 
-lowered : (n : ℕ) → to_z w64 (n % 4294967296) -ℤ pos 2147483648 ≡ sub_ℕ (n % 4294967296) 2147483648
-lowered n = ap (λ (z : ℤ). z -ℤ pos 2147483648) (to_z_pos w64 (n % 4294967296) (omega arith))
-
-lowered_fits : (n : ℕ) → SFits w64 (to_z w64 (n % 4294967296) -ℤ pos 2147483648)
-lowered_fits n = subst (SFits w64) (sym (lowered n)) (record { sfits = omega (arith, mag_subℕ (n % 4294967296) 2147483648) })
-
-pub overflow_sub-result : goal.overflow_sub-result
-overflow_sub-result c = lowered_fits (c.pair.result + 65536 * c.pair-2.result + 2147483648)
-
 pub returns : goal.returns
-unfolding read_node constant_of signed
+unfolding constant_of read_node
 returns c =
-    let bytes = c.args.t.now in
+    let t = c.args.t.now in
     let at = c.args.at in
-    to_z-of_z w64 _ (lowered_fits (c.pair.result + 65536 * c.pair-2.result + 2147483648)) ∙ lowered (c.pair.result + 65536 * c.pair-2.result + 2147483648)
-    ∙ ap₂ {C = ℤ} (λ (a b : ℕ). sub_ℕ ((a + 65536 * b + 2147483648) % 4294967296) 2147483648)
-    (c.pair.ensures.0 ∙ pair_behind bytes at 4) (c.pair-2.ensures.0 ∙ pair_behind bytes at 6)
+    let wide : SFits w64 c.from.result = search rules in
+    let narrow : SFits w32 c.from_le_bytes.result = search rules in
+    rw (u16_drop t at 4, u16_drop t at 6)
+    (to_z-of_z w64 _ wide ∙ c.from.ensures ∙ to_z-of_z w32 _ narrow ∙ c.from_le_bytes.ensures
+    ∙ signed_is _ (omega (arith, c.type_inv.t (at + 4), c.type_inv.t (at + 5), c.type_inv.t (at + 6), c.type_inv.t (at + 7))) ∙ ap signed (four_bytes t at))

@@ -1,41 +1,35 @@
--- `table::mentioned::flag_list` meets its contract. The loop's invariant: the flags of the first i variables of the list are set.
+-- `table::mentioned::flag_list` meets its contract. The loop's invariant: the flags of the variables so far are set.
 -- Assumes nothing.
-use mathlib.Core.Path.{◌≡◌, refl, sym, ap, ap₂, ◌∙◌}
+use mathlib.Core.Path.{refl, sym, ap, ap₂, ◌∙◌, subst}
 use mathlib.Core.Bool.{Bool, true}
 use mathlib.Core.List.{List}
-use Prim.Native.Nat.{ℕ, ◌+◌, ◌*◌, ◌<◌}
+use Prim.Native.Nat.{ℕ, ◌<◌}
 use native.Mathlib.Omega.{arith}
 use native.Mathlib.Numerals.{add-one}
-use lib.ListN.{length, get_or, take, drop, set, length-drop}
-use lib.Seq.{get_or-drop, take-suc}
+use lib.ListN.{length, get_or, take, set}
+use lib.Seq.{take-suc}
+use Rattle.std.proofs.Common.{take_all}
 use Rattle.rules.proofs.Laws.Rising.{flagged, flagged_more}
-use Rattle.table.specs.Lists.{list_at}
+use Rattle.table.specs.Laws.Row.{row_low}
 use Rattle.table.proofs.mentioned.flag_list.Goals as goal
 
-pub loop-i-init : goal.loop-i-init
+pub loop-v-init : goal.loop-v-init
 unfolding flagged
-loop-i-init c = (omega arith, refl)
+loop-v-init c = refl
 
-pub bounds-flags-v : goal.bounds-flags-v
-bounds-flags-v c =
-    let low : get_or c.args.lists.now (33 * c.args.node + 1 + c.loop-i.i) 0 < 32 = c.requires.low c.loop-i.i (omega arith) in
-    omega (arith, low)
+pub bounds-flags-from : goal.bounds-flags-from
+bounds-flags-from c =
+    let low = subst (λ (l : List ℕ). (i : ℕ) → i < length l → get_or l i 0 < 32) (sym c.of-v-items.ensures) (row_low c.requires) in
+    omega (arith, low c.loop-v.v-index c.loop-v-test.true, c.from.ensures)
 
-pub loop-i-preserved : goal.loop-i-preserved
-loop-i-preserved c =
+pub loop-v-preserved : goal.loop-v-preserved
+loop-v-preserved c =
     let a = c.args in
-    let i = c.loop-i.i in
-    let rest = drop (33 * a.node + 1) a.lists.now in
-    let inside : i < length rest = simp length-drop (omega arith) in
-    let read : c.wide-v.result ≡ get_or rest i 0 = c.wide-v.ensures.0 ∙ sym (get_or-drop (33 * a.node + 1) a.lists.now i 0) in (
-      omega arith,
-      ap₂ (λ (fs : List Bool) (v : ℕ). set fs v true) c.loop-i.invariant.1 read
-          ∙ sym (ap (flagged a.flags.now) (ap (λ (k : ℕ). take k rest) (add-one i) ∙ take-suc rest i 0 inside) ∙ flagged_more a.flags.now (take i rest) (get_or rest i 0)),
-    )
+    let i = c.loop-v.v-index in
+    let all = c.of-v-items.result.now in
+    ap₂ (λ (fs : List Bool) (v : ℕ). set fs v true) c.loop-v.invariant c.from.ensures
+    ∙ sym (ap (flagged a.flags.now) (ap (λ (k : ℕ). take k all) (add-one i) ∙ take-suc all i 0 c.loop-v-test.true)
+    ∙ flagged_more a.flags.now (take i all) (get_or all i 0))
 
 pub returns : goal.returns
-unfolding list_at
-returns c =
-    let a = c.args in
-    let e : c.loop-i.i ≡ get_or a.lists.now (33 * a.node) 0 = omega arith in
-    c.loop-i.invariant.1 ∙ ap (λ (k : ℕ). flagged a.flags.now (take k (drop (33 * a.node + 1) a.lists.now))) e
+returns c = c.loop-v.invariant ∙ ap (flagged c.args.flags.now) (take_all c.loop-v.v-index c.of-v-items.result.now c.loop-v-test.false ∙ c.of-v-items.ensures)

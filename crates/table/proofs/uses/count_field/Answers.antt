@@ -1,18 +1,15 @@
--- `table::uses::count_field` meets its contract, by the tests on the rule; a number past the array is none of the 512 that are counted.
+-- `table::uses::count_field` meets its contract: a child among the 512 nodes has one more, and the rest stays.
 -- Assumes nothing.
-use Rattle.table.specs.Laws.Uses.{field_free, field_unused, field_far, field_counted}
+use native.Mathlib.Omega.{arith}
+use Rattle.table.specs.Laws.Uses.{field_counted, field_far, field_none}
 use Rattle.table.proofs.uses.count_field.Goals as goal
 
-pub returns-then-rule-eq-FREE : goal.returns-then-rule-eq-FREE
-returns-then-rule-eq-FREE c = field_free _ _ _ c.if-rule-eq-FREE.true
+pub returns-then-x-lt-MOST_NODES : goal.returns-then-x-lt-MOST_NODES
+returns-then-x-lt-MOST_NODES c =
+    field_counted _ _ _ _ c.told-counts _ c.in-Child.is c.if-x-lt-MOST_NODES.true (omega (arith, c.saturating_add.ensures))
 
-pub returns-then-rule-eq-NOTHING : goal.returns-then-rule-eq-NOTHING
-returns-then-rule-eq-NOTHING c = field_unused _ _ _ c.if-rule-eq-FREE.false c.if-rule-eq-NOTHING.true
+pub returns-else-x-lt-MOST_NODES : goal.returns-else-x-lt-MOST_NODES
+returns-else-x-lt-MOST_NODES c = field_far _ _ _ c.if-x-lt-MOST_NODES.false
 
-pub returns-then-x-ge-MOST_NODES : goal.returns-then-x-ge-MOST_NODES
-returns-then-x-ge-MOST_NODES c = field_far _ _ _ c.if-rule-eq-FREE.false c.if-rule-eq-NOTHING.false c.if-x-ge-MOST_NODES.true
-
-pub returns : goal.returns
-returns c =
-    field_counted _ _ _ c.if-rule-eq-FREE.false c.if-rule-eq-NOTHING.false c.more.result c.if-x-ge-MOST_NODES.false
-    c.requires c.more.ensures
+pub returns-in-Free : goal.returns-in-Free
+returns-in-Free c = field_none _ _ _ c.in-Free.is
