@@ -16,8 +16,11 @@
 // the whole buffer. Where the input ends inside a call, or a call is of no kind, a run without a limit, or too large, the last
 // line says so, and nothing behind it is executed.
 //
-// A call's table, words and buffer stand on the heap. A read that fails counts as the end of the input, and a write that fails is not
-// told. Where memory fails, the last line says so.
+// Each line is written before the next call is read, and nothing behind a call is read before it is executed. A read that fails counts
+// as the end of the input, and a write that fails is not told.
+//
+// A call's arrays stand on the stack, since memory that is asked for may fail: 8,192 bytes for the table, 32,768 for the words, as many
+// for their bytes while they are read, as many for the buffer, and 4,096 for the text of its line.
 #![tactic(auto)]
 
 mod execute;
@@ -25,32 +28,30 @@ mod stream;
 
 use crate::execute::execute;
 use crate::stream::{CallError, next_call};
-use std::alloc::Global;
-use std::io;
-use std::io::{BufRead, BufReader, BufWriter, Write};
+use std::io::{Cursor, Result as Written, Write};
+use text::line::{MOST_TEXT, write_out};
 
 // Executes calls until the input ends; a proved loop has to end, so the turns are counted, to a number that no run uses up.
-fn execute_all<R: BufRead, W: Write>(
-    alloc: Global,
-    input: &mut R,
-    out: &mut W,
-) -> Result<(), CallError> {
+fn execute_all() -> Result<(), CallError> {
     for _ in 0..u64::MAX {
-        let Some(call) = next_call(input)? else {
+        let Some(call) = next_call()? else {
             break;
         };
-        execute(alloc, call, input, out)?;
+        execute(call)?;
     }
     Ok(())
 }
 
-fn main(rt: HostRuntime) -> io::Result<()> {
-    let alloc = rt.alloc();
-    let mut input = BufReader::new(alloc, rt.reader())?;
-    let mut out = BufWriter::new(alloc, io::writer(&rt))?;
-    if let Err(error) = execute_all(alloc, &mut input, &mut out) {
-        let _told = writeln!(out, "calls: {error}");
-    }
-    let _told = out.flush();
+// Writes the line that says why nothing more is executed.
+fn write_error(error: CallError) -> Written<()> {
+    let mut text = Cursor::new([0u8; MOST_TEXT]);
+    writeln!(text, "calls: {error}")?;
+    write_out(&mut text);
     Ok(())
+}
+
+fn main() {
+    if let Err(error) = execute_all() {
+        let _told = write_error(error);
+    }
 }

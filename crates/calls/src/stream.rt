@@ -1,17 +1,18 @@
-// Reading calls from a stream of bytes.
-ghost use Rattle.std.specs.Prelude.{◌≡◌, ◌*◌, ◌≤◌, IfOk, IfErr, vec_len};
+// Reading calls from standard input, by the kit's `read` alone, and no further than a call goes.
+ghost use Rattle.std.specs.Prelude.{◌≡◌, ◌≤◌, IfOk, IfErr, length};
 ghost use Rattle.calls.specs.Stream.{Decodes, Within, Opened, Fitting};
 
-use std::alloc::{AllocError, Global};
-use std::io::{BufRead, Read};
-use std::{fmt, io};
+use std::fmt;
 use text::word::{decode, number_at};
 
-const MOST_BYTES: usize = 8192;
+pub const MOST_BYTES: usize = 8192;
 
-const MOST_WORDS: usize = 4096;
+pub const MOST_WORDS: usize = 4096;
 
-const MOST_ROOM: usize = 4096;
+pub const MOST_ROOM: usize = 4096;
+
+// The bytes of the most words.
+const WORD_BYTES: usize = 32768;
 
 // The bytes of the five numbers.
 const HEAD_BYTES: usize = 20;
@@ -21,7 +22,6 @@ const HEAD_BYTES: usize = 20;
 pub enum CallError {
     Cut,
     Unknown,
-    OutOfMemory,
 }
 
 impl fmt::Display for CallError {
@@ -29,21 +29,7 @@ impl fmt::Display for CallError {
         match self {
             CallError::Cut => write!(f, "the input ends inside a call"),
             CallError::Unknown => write!(f, "no such call, or one too large"),
-            CallError::OutOfMemory => write!(f, "out of memory"),
         }
-    }
-}
-
-// Bytes are read only inside a call, and a read that fails counts as the end of the input.
-impl From<io::Error> for CallError {
-    fn from(_error: io::Error) -> CallError {
-        CallError::Cut
-    }
-}
-
-impl From<AllocError> for CallError {
-    fn from(_error: AllocError) -> CallError {
-        CallError::OutOfMemory
     }
 }
 
@@ -112,37 +98,36 @@ impl Call {
 }
 
 // The call that stands next, where the input has not ended.
-pub fn next_call<R: BufRead>(input: &mut R) -> Result<Option<Call>, CallError>
+pub fn next_call() -> Result<Option<Call>, CallError>
     ensures { Fitting result }
 {
-    let Ok(ahead) = input.fill_buf() else {
-        return Ok(None);
-    };
-    if ahead.is_empty() {
+    let mut head = [0u8; HEAD_BYTES];
+    let got = io::read_full(0, &mut head);
+    if got == 0 {
         return Ok(None);
     }
-    let mut head = [0u8; HEAD_BYTES];
-    input.read_exact(&mut head)?;
+    if got < HEAD_BYTES {
+        return Err(CallError::Cut);
+    }
     let call = Call::opening(&head)?.within()?;
     Ok(Some(call))
 }
 
-// The next n bytes.
-pub fn read_bytes<R: Read>(alloc: Global, input: &mut R, n: usize) -> Result<Vec<u8>, CallError>
-    ensures { IfOk result (λ bytes. vec_len bytes ≡ n) }
-{
-    let mut bytes = vec![in alloc; 0u8; n]?;
-    input.read_exact(&mut bytes)?;
-    Ok(bytes)
+// Fills the bytes from the input; a read that fails counts as its end.
+pub fn read_bytes(bytes: &mut [u8]) -> Result<(), CallError> {
+    if io::read_full(0, bytes) < bytes.len() {
+        return Err(CallError::Cut);
+    }
+    Ok(())
 }
 
-// The next n words.
-pub fn read_words<R: Read>(alloc: Global, input: &mut R, n: usize) -> Result<Vec<i64>, CallError>
-    requires { n ≤ 4096 }
-    ensures { IfOk result (λ words. vec_len words ≡ n) }
+// Fills the words from the input.
+pub fn read_words(words: &mut [i64]) -> Result<(), CallError>
+    requires { length words.old ≤ 4096 }
 {
-    let bytes = read_bytes(alloc, input, 8 * n)?;
-    let mut words = vec![in alloc; 0i64; n]?;
-    decode(&bytes, &mut words);
-    Ok(words)
+    let mut bytes = [0u8; WORD_BYTES];
+    let bytes = &mut bytes[..8 * words.len()];
+    read_bytes(bytes)?;
+    decode(bytes, words);
+    Ok(())
 }

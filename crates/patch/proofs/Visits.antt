@@ -54,11 +54,11 @@ module _ {script : Script} {node : ℕ} {old : List ℤ} {end : ℕ} {s : Reache
 
   module _ {met : Result Met Refusal} (m : MetAs (meet node last before) met old s.from end) where
     pub visit_broken : {q : Refusal} → met ≡ Err q → (out after : List ℤ) → VisitsTo script node last old end s (Err q) out after
-    visit_broken {q} is out after = each (Err q) out after (handed_up (goes_on same) m is)
+    visit_broken {q} is out after = each (Err q) out after (handed_up (goes_on same) m.0 is)
 
     module _ {x : Met} (is : met ≡ Ok x) where
       here : Accepts (MetAt old s.from end) (meet node last before) x
-      here = accepts m is
+      here = accepts m.0 is
 
       abbrev at : MetAt old s.from end here.value x
       at = here.holds

@@ -111,7 +111,7 @@ passed_over false one other e = refl
 pub to_the_end : {A : Type 0} (xs : List A) (n : ℕ) → take (length xs - n) (drop n xs) ≡ drop n xs
 to_the_end xs n = take_all (length xs - n) (drop n xs) (omega (arith, length-drop n xs))
 
-first_words : (bytes : List ℕ) (words : List ℤ) (n : ℕ) → n ≤ length words → Decoded bytes n words → take n words ≡ words_of bytes n
+pub first_words : (bytes : List ℕ) (words : List ℤ) (n : ℕ) → n ≤ length words → Decoded bytes n words → take n words ≡ words_of bytes n
 unfolding words_of
 first_words bytes words zero h d = refl
 first_words bytes words (suc n) h d =

@@ -12,7 +12,8 @@
 // A line is the call, 0, steps, walked, reused, fresh, the record's length and the V output values; or the call and the number of
 // its refusal. A session that is none, or whose count of words is wrong, is the line `session refused`.
 //
-// A read that fails counts as the end of the input, and a write that fails is not told.
+// A read that fails counts as the end of the input, and a write that fails is not told. The arrays stand on the stack, since memory that is
+// asked for may fail.
 #![tactic(auto)]
 
 mod listing;
@@ -20,19 +21,12 @@ mod say;
 mod session;
 
 use crate::listing::{ROOM, list};
-use crate::say::Listing;
 use crate::session::MOST_INPUT;
-use std::io;
-use std::io::{BufWriter, Read};
 
 // Reads as much as decides what is listed, and lists it. The last record is what the contract of the listing speaks of.
-fn main(rt: HostRuntime) -> io::Result<()> {
-    let alloc = rt.alloc();
-    let mut input = Vec::new(alloc);
-    let _read = rt.reader().take(MOST_INPUT).read_to_end(&mut input);
-    let mut listing = Listing::new(BufWriter::new(alloc, io::writer(&rt))?);
+fn main() {
+    let mut input = [0u8; MOST_INPUT];
+    let got = io::read_full(0, &mut input);
     let mut last = [0i64; ROOM];
-    list(&mut listing, &input, &mut last);
-    let _told = listing.finish();
-    Ok(())
+    list(&input[..got], &mut last);
 }

@@ -5,7 +5,7 @@ ghost use Rattle.patchlist.specs.Session.{opens as opens_by};
 use table::access::pair;
 
 // More than a header and the largest table that it can name: an input that is cut here is decided before its end.
-pub const MOST_INPUT: u64 = 65536;
+pub const MOST_INPUT: usize = 65536;
 
 // The offset of the table: the length of the header.
 pub const TABLE_AT: usize = 8;

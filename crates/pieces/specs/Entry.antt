@@ -1,6 +1,6 @@
 -- What the contracts of entries say, by the definitions of `meet` and of the skip rule; and what is known of a walk wherever it stands.
 -- Assumes nothing.
-use Rattle.std.specs.Prelude.{◌≡◌, Bool, true, List, [], ℕ, ◌+◌, ◌-◌, ◌*◌, ◌≤◌, eqb, length, ℤ, Result}
+use Rattle.std.specs.Prelude.{◌≡◌, Bool, true, List, [], ℕ, ◌+◌, ◌-◌, ◌*◌, ◌≤◌, eqb, length, ℤ, Result, IfErr}
 use Rattle.numbers.specs.Lay.{lay}
 use Rattle.rules.specs.Outcome.{choose}
 use Rattle.rules.specs.Outcome as Paper
@@ -30,8 +30,9 @@ pub record MetAt (old : List ℤ) (from end : ℕ) (e : Entry) (r : Met) : Type 
   pub some : 1 ≤ e.steps
   pub most : e.steps ≤ 1_000_000
 
+-- an entry is refused as a broken one alone
 abbrev pub MetAs : Paper.Outcome Entry → Result Met Refusal → List ℤ → ℕ → ℕ → Type 0
-MetAs m r old from end = Agrees (MetAt old from end) m r
+MetAs m r old from end = Agrees (MetAt old from end) m r × IfErr r (λ q. q ≡ Refusal.Broken)
 
 -- ---- where a walk stands
 

@@ -51,9 +51,7 @@ pub fn meet(node: usize, last: bool, old: &[i64], from: usize, end: usize) -> Re
     if !ends(last, stop, end) {
         return Err(Refusal::Broken);
     }
-    let Some(steps) = read_limit(old[from + 2]) else {
-        return Err(Refusal::Broken);
-    };
+    let steps = read_limit(old[from + 2]).ok_or(Refusal::Broken)?;
     Ok(Met { stop, steps })
 }
 

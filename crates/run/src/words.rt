@@ -39,7 +39,7 @@ pub fn snapshot(
 
 // All words of a slice from a place on; returns the place behind them.
 pub fn lay_slice(out: &mut [i64], at: usize, from: &[i64]) -> usize
-    requires { at + length from.now ≤ farthest }
+    requires { (at ≤ farthest) × (length from.now ≤ farthest) }
     ensures laid { out.new ≡ lay out.old at from.now }
     ensures behind { result ≡ at + length from.now }
 {

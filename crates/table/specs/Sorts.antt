@@ -8,6 +8,7 @@ use Rattle.rules.specs.Tree.{gives, depth_of, depth}
 use Rattle.rules.specs.Table as Table
 use Rattle.rules.specs.Table.{byte, ty_of, Kind, number_constant, truth_constant, variable, operator, skip, assign, sequence, if, repeat, expression, statement}
 use Rattle.table.specs.declared.answer.Refusal.{Refusal}
+use Rattle.table.specs.declared.node.Fields.{Fields}
 use Rattle.table.specs.declared.node.Node.{Node}
 use Rattle.table.specs.declared.node.Sort.{Sort}
 use Rattle.table.specs.declared.node.Part.{Part}
@@ -17,7 +18,11 @@ use Rattle.table.specs.declared.node.Field.{Field}
 use Rattle.table.specs.declared.node.Form.{Form}
 use Rattle.table.specs.Kinds.{paper_kind, kind_number_of}
 
--- the paper's node
+-- the paper's node, of the fields that the code reads
+abbrev pub fields_of : Fields → Table.Node
+fields_of x = record { kind = x.kind; tag = x.tag; a = x.a; b = x.b; c = x.c }
+
+-- and of a node whose kind is known
 abbrev pub node_of : Node → Table.Node
 node_of x = record { kind = kind_number_of x.kind; tag = x.tag; a = x.a; b = x.b; c = x.c }
 
@@ -26,6 +31,11 @@ abbrev pub IsRead : Table.Node → Result Node Refusal → Type 0
 IsRead n r = MatchResult r
     (λ x. (Table.kind_of n.kind ≡ Maybe.some (paper_kind x.kind)) × (node_of x ≡ n))
     (λ reason. (reason ≡ Refusal.Node) × (Table.kind_of n.kind ≡ Maybe.none))
+
+-- a type's byte
+abbrev pub ty_byte : Ty → ℕ
+ty_byte Ty.number = 0
+ty_byte Ty.truth = 1
 
 -- ---- sorts and heights of parts; 25 stands for any height above 24
 
@@ -68,10 +78,16 @@ form sequence = asked Tag.Zero (child_of Sort.Statement) (child_of Sort.Statemen
 form if = asked Tag.Zero (child_of Sort.Truth) (child_of Sort.Statement) (child_of Sort.Statement) (Wanted.Sort Sort.Statement)
 form repeat = asked Tag.Zero (child_of Sort.Number) (child_of Sort.Statement) Field.Zero (Wanted.Sort Sort.Statement)
 
+-- of no kind, what no node fits
+abbrev pub form_by : Maybe.Option Kind → Form
+form_by Maybe.none = asked Tag.Never Field.Free Field.Free Field.Free (Wanted.Sort Sort.Statement)
+form_by (Maybe.some k) = form k
+
 abbrev pub tag_fits : Tag → ℕ → ℕ → Bool
 tag_fits Tag.Zero tag v = eqb tag 0
 tag_fits Tag.Bit tag v = ltb tag 2
 tag_fits Tag.Variable tag v = ltb tag v
+tag_fits Tag.Never tag v = false
 
 -- the sort that is asked for or given, where it may be the type of the variable that the tag names
 abbrev pub wanted_by : List ℕ → Wanted → ℕ → Sort

@@ -3,13 +3,23 @@ ghost use Rattle.std.specs.Prelude.{◌≡◌, ◌≢◌, ◌+◌, ◌<◌, ◌�
 ghost use Rattle.std.proofs.Math.Option.{none};
 ghost use Rattle.rules.specs.Table.{read_node, kind_of};
 ghost use Rattle.table.specs.Kinds.{paper_type, paper_kind};
-ghost use Rattle.table.specs.Sorts.{node_of, IsRead, sort_of_type, form, tag_fits, wanted_by, height_as, field_by, part_by};
+ghost use Rattle.table.specs.Sorts.{fields_of, node_of, IsRead, sort_of_type, form, form_by, tag_fits, wanted_by, height_as, field_by, part_by};
 
 use crate::access::pair;
 use crate::answer::Refusal;
 use crate::header::Extent;
 use crate::kind::{Kind, Type};
 use crate::layout::{HEADER_LENGTH, MOST_DEPTH, MOST_NODES};
+
+// A node's eight bytes, whatever its kind.
+#[derive(Clone, Copy, Debug, PartialEq, Eq, Drop)]
+pub struct Fields {
+    pub kind: u8,
+    pub tag: usize,
+    pub a: usize,
+    pub b: usize,
+    pub c: usize,
+}
 
 // A node's eight bytes, of a kind that there is.
 #[derive(Clone, Copy, Debug, PartialEq, Eq, Drop)]
@@ -48,12 +58,13 @@ pub struct Part {
     pub height: u8,
 }
 
-// What a kind asks of its tag: to be zero, 0 or 1, or the number of a variable.
+// What a kind asks of its tag: to be zero, 0 or 1, or the number of a variable; of no kind, that no tag will do.
 #[derive(Clone, Copy, Debug, PartialEq, Eq, Drop)]
 pub enum Tag {
     Zero,
     Bit,
     Variable,
+    Never,
 }
 
 // A sort that is asked for or given: this one, or the type of the variable that the tag names.
@@ -87,19 +98,32 @@ pub struct Form {
     pub gives: Wanted,
 }
 
-// The node whose bytes begin at a place of the table; refused where its kind is none.
-#[tactic(auto, using(crate::specs::Laws::Nodes::node_read, crate::specs::Laws::Nodes::node_unknown))]
-pub fn read(t: &[u8], at: usize) -> Result<Node, Refusal>
+// The fields of the node whose bytes begin at a place of the table.
+pub fn fields_at(t: &[u8], at: usize) -> Fields
     requires { at + 8 ≤ length t.now }
-    ensures { IsRead (read_node (drop at t.now)) result }
+    ensures { fields_of result ≡ read_node (drop at t.now) }
 {
-    let kind = Kind::try_from(t[at])?;
-    Ok(Node {
-        kind,
+    Fields {
+        kind: t[at],
         tag: usize::from(t[at + 1]),
         a: pair(t, at + 2),
         b: pair(t, at + 4),
         c: pair(t, at + 6),
+    }
+}
+
+// The node whose bytes begin at a place of the table; refused where its kind is none.
+pub fn read(t: &[u8], at: usize) -> Result<Node, Refusal>
+    requires { at + 8 ≤ length t.now }
+    ensures { IsRead (read_node (drop at t.now)) result }
+{
+    let x = fields_at(t, at);
+    Ok(Node {
+        kind: Kind::try_from(x.kind)?,
+        tag: x.tag,
+        a: x.a,
+        b: x.b,
+        c: x.c,
     })
 }
 
@@ -129,7 +153,7 @@ fn asks(tag: Tag, a: Field, b: Field, c: Field, gives: Wanted) -> Form
 }
 
 // What a kind asks of its tag and its children A, B and C, and what it gives.
-pub fn form_of(kind: Kind) -> Form
+pub fn asked_of(kind: Kind) -> Form
     ensures { result ≡ form (paper_kind kind) }
 {
     let unused = Field::Zero;
@@ -166,6 +190,26 @@ pub fn form_of(kind: Kind) -> Form
     }
 }
 
+// Of no kind: what no node fits.
+fn no_form() -> Form
+    ensures { result ≡ form_by none }
+{
+    asks(Tag::Never, Field::Free, Field::Free, Field::Free, STATEMENT)
+}
+
+// What the kind with this number asks, and what it gives; of a number of no kind, what no node fits.
+pub fn form_of(kind: usize) -> Form
+    ensures { result ≡ form_by (kind_of kind) }
+{
+    let Ok(byte) = u8::try_from(kind) else {
+        return no_form();
+    };
+    match Kind::try_from(byte) {
+        Ok(known) => asked_of(known),
+        Err(_) => no_form(),
+    }
+}
+
 // Whether the tag is one that its kind may have, in a table of v variables.
 fn tag_fits(rule: Tag, tag: usize, v: usize) -> bool
     ensures { result ≡ tag_fits rule tag v }
@@ -174,6 +218,7 @@ fn tag_fits(rule: Tag, tag: usize, v: usize) -> bool
         Tag::Zero => tag == 0,
         Tag::Bit => tag < 2,
         Tag::Variable => tag < v,
+        Tag::Never => false,
     }
 }
 
@@ -219,20 +264,33 @@ fn field_height(
     }
 }
 
-// The part that a node makes of those before it; refused where it makes none.
+// The part that a node makes of those before it, where this is asked of it; refused where it makes none.
 #[tactic(auto, unfolding(crate::specs::Sorts::part_by))]
+pub fn part_for(
+    t: &[u8],
+    v: usize,
+    form: Form,
+    x: Node,
+    parts: &[Option<Part>; MOST_NODES],
+) -> Result<Part, Refusal>
+    requires { (16 + v < length t.now) × (19 < length t.now) }
+    ensures { result ≡ part_by t.now v form (node_of x) parts.now }
+{
+    if !tag_fits(form.tag, x.tag, v) {
+        return Err(Refusal::Node);
+    }
+    let a = field_height(t, form.a, x.a, x.tag, parts)?;
+    let b = field_height(t, form.b, x.b, x.tag, parts)?;
+    let c = field_height(t, form.c, x.c, x.tag, parts)?;
+    Ok(Part {
+        sort: wanted_by(t, form.gives, x.tag),
+        height: a.max(b).max(c).saturating_add(1).min(MOST_DEPTH + 1),
+    })
+}
+
+// The part that a node makes of those before it; refused where it makes none.
 pub fn part_of(table: &Extent, x: Node, parts: &[Option<Part>; MOST_NODES]) -> Result<Part, Refusal>
     ensures { result ≡ part_by table.now.bytes.now table.now.variables (form (paper_kind x.kind)) (node_of x) parts.now }
 {
-    let form = form_of(x.kind);
-    if !tag_fits(form.tag, x.tag, table.variables) {
-        return Err(Refusal::Node);
-    }
-    let a = field_height(table.bytes, form.a, x.a, x.tag, parts)?;
-    let b = field_height(table.bytes, form.b, x.b, x.tag, parts)?;
-    let c = field_height(table.bytes, form.c, x.c, x.tag, parts)?;
-    Ok(Part {
-        sort: wanted_by(table.bytes, form.gives, x.tag),
-        height: a.max(b).max(c).saturating_add(1).min(MOST_DEPTH + 1),
-    })
+    part_for(table.bytes, table.variables, asked_of(x.kind), x, parts)
 }

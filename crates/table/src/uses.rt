@@ -9,7 +9,7 @@ ghost use Rattle.table.specs.Uses.{Counted};
 
 use crate::header::Extent;
 use crate::layout::MOST_NODES;
-use crate::node::{Field, Node, form_of};
+use crate::node::{Field, Node, asked_of};
 
 // Counts a field's child, if the field has one.
 fn count_field(rule: Field, x: usize, counts: &mut [u8; MOST_NODES])
@@ -29,7 +29,7 @@ fn count_field(rule: Field, x: usize, counts: &mut [u8; MOST_NODES])
 fn count_node(x: Node, counts: &mut [u8; MOST_NODES])
     ensures { Counted counts.old (children_in (form (paper_kind x.kind)) (node_of x)) counts.new }
 {
-    let form = form_of(x.kind);
+    let form = asked_of(x.kind);
     count_field(form.a, x.a, counts);
     count_field(form.b, x.b, counts);
     count_field(form.c, x.c, counts);

@@ -1,4 +1,4 @@
-// What the programs share: numbers and words from their bytes, and the numbers of a line of text.
+// What the programs share: numbers and words from their bytes, and lines of text.
 #![tactic(auto)]
 
 pub mod line;

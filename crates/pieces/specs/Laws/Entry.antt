@@ -124,7 +124,7 @@ IsBroken node last old from end = MetAs (meet node last (part old from end)) (Er
 
 module _ (node : ℕ) (last : Bool) (old : List ℤ) (from end : ℕ) (inside : Inside old from end) where
   refuses : meet node last (part old from end) ≡ refused broken → IsBroken node last old from end
-  refuses e = agrees_err e refl
+  refuses e = (agrees_err e refl, refl)
 
   pub under_three : end - from < 3 → IsBroken node last old from end
   under_three less = refuses (meet_short node last (part old from end) (omega (arith, part_long old from end inside.ends)))
@@ -200,21 +200,23 @@ module _ (node : ℕ) (last : Bool) (old : List ℤ) (from end : ℕ) (inside : 
           let leaves : ends last (part old stop end) ≡ true = leaves_as is there in
           let among = chosen_in (between (pos 1) most_steps (at old (from + 2))) (nat_abs (at old (from + 2))) read in
           let same : eq_z (at old from) (pos node) ≡ true = ap (λ (z : ℤ). eq_z z (pos node)) here ∙ eq_z_refl (pos node) in
-          let big : le_z (pos 3) (at old (from + 1)) ≡ true = large (at old (from + 1)) sized.low sized.is in
-          agrees_ok {a = record {
-            steps = nat_abs (at old (from + 2));
-            words = at old from ∷ at old (from + 1) ∷ at old (from + 2) ∷ part old (from + 3) stop;
-            parts = part old (from + 3) stop;
-            behind = part old stop end;
-          }} (rw (opened, same, big, cut_is, leaves, among.0) refl)
-          (rw is
-          (record {
-            steps = among.1;
-            opens = omega (arith, sized.low);
-            inside = stops_inside;
-            words = sym (three old from stop (omega (arith, sized.low)) (omega (arith, stops_inside, inside.ends)));
-            parts = refl;
-            behind = refl;
-            some = (in_limits_lem (at old (from + 2)) among.0).1;
-            most = (in_limits_lem (at old (from + 2)) among.0).2;
-          }))
+          let big : le_z (pos 3) (at old (from + 1)) ≡ true = large (at old (from + 1)) sized.low sized.is in (
+            agrees_ok {a = record {
+              steps = nat_abs (at old (from + 2));
+              words = at old from ∷ at old (from + 1) ∷ at old (from + 2) ∷ part old (from + 3) stop;
+              parts = part old (from + 3) stop;
+              behind = part old stop end;
+            }} (rw (opened, same, big, cut_is, leaves, among.0) refl)
+                (rw is
+                (record {
+                  steps = among.1;
+                  opens = omega (arith, sized.low);
+                  inside = stops_inside;
+                  words = sym (three old from stop (omega (arith, sized.low)) (omega (arith, stops_inside, inside.ends)));
+                  parts = refl;
+                  behind = refl;
+                  some = (in_limits_lem (at old (from + 2)) among.0).1;
+                  most = (in_limits_lem (at old (from + 2)) among.0).2;
+                })),
+            tt,
+          )

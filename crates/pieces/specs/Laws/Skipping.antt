@@ -27,7 +27,7 @@ behind_skipped stop steps s =
       at = s.at + (stop - s.from);
     }
 
-skip_short : (e : Entry) (left : ℕ) (changes : List ℤ) → left < e.steps → skipped e left changes ≡ refused fuel_spent
+pub skip_short : (e : Entry) (left : ℕ) (changes : List ℤ) → left < e.steps → skipped e left changes ≡ refused fuel_spent
 unfolding skipped
 skip_short e left changes less = rw (lt-leb e.steps left less)
 

@@ -65,7 +65,7 @@ module _ (script : Script) {inputs : List ℤ} {limit : ℕ} (h : Startable scri
   abbrev v : ℕ
   v = length inputs
 
-  passed : Passed bytes inputs (pos limit) p
+  pub passed : Passed bytes inputs (pos limit) p
   passed = holds_of (subst (Holds (Passed bytes inputs (pos limit))) h.passed (passing bytes inputs (pos limit)))
 
   types : length p.types ≡ v
@@ -74,7 +74,7 @@ module _ (script : Script) {inputs : List ℤ} {limit : ℕ} (h : Startable scri
   pub few : v ≤ 32
   few = omega (arith, types, ap length (through bytes p passed.checked).types, types_long bytes p passed.checked, (sized bytes p passed.checked).few)
 
-  most_low : limit ≤ 1_000_000
+  pub most_low : limit ≤ 1_000_000
   most_low = (in_limits_lem (pos limit) passed.limited).2
 
   run_is : finish_run bytes inputs (pos limit) ≡ (run p.root limit (padded inputs) >>= λ d. accepted (finished v inputs limit d))

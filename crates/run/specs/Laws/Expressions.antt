@@ -62,7 +62,7 @@ module _ {checked : Checked} {node : ℕ} {values : List ℤ} {at : ℕ} (h : Ev
   pub built : (k : Kind) → top.kind ≡ number_of_kind k → Built (types_of bytes) (take node (parts_of bytes)) node top k (expression type tree)
   built k e = stands_as bytes checked.accepted.0 checked.accepted.1 node (expression type tree) k here e
 
-  few : length (types_of bytes) ≤ 32
+  pub few : length (types_of bytes) ≤ 32
   few = omega (arith, (sized bytes checked.accepted.0 checked.accepted.1).few, types_long bytes checked.accepted.0 checked.accepted.1)
 
   -- an answer with an empty record

@@ -9,7 +9,7 @@ use Rattle.table.specs.Laws.Row.{list_long, list_at_lem}
 use Rattle.run.specs.Words.{Listed}
 
 module _ {lists : List ℕ} {node place : ℕ} (listed : Listed lists node place) where
-  listed_long : length (list_at lists node) ≡ get_or lists (33 * node) 0
+  pub listed_long : length (list_at lists node) ≡ get_or lists (33 * node) 0
   listed_long = list_long lists node listed.long listed.inside listed.count
 
   -- the list is short

@@ -1,10 +1,10 @@
 -- Numbers of the 32-bit range in 64-bit words: a word is read back as it was written, sums, differences and products fit, and the
 -- two tests at the ends of the range are the definition's.
 -- Assumes nothing.
-use Rattle.std.specs.Prelude.{◌≡◌, refl, ℕ, zero, suc, ◌+◌, ◌<◌, Bool, true, false, ◌&&◌, ◌⊎◌, List, set, leb, eqb, ℤ, pos, negsuc, nat_abs, ◌+ℤ◌, ◌-ℤ◌, ◌*ℤ◌, Some, None}
-use Rattle.std.proofs.Common.{sym, ap, ap₂, ◌∙◌, subst, arith, lt_of_le_of_lt, mul-le-mul, true≢false, inl, inr, lit<, SFits, to_z, of_z, leb-true, le-leb, ltb-true, ltb-false, eq-eqb, ne_eqb}
+use Rattle.std.specs.Prelude.{◌≡◌, refl, ℕ, zero, suc, ◌+◌, ◌<◌, Bool, true, false, ◌&&◌, ◌⊎◌, List, set, T, leb, eqb, ℤ, pos, negsuc, nat_abs, ◌+ℤ◌, ◌-ℤ◌, ◌*ℤ◌, Some, None}
+use Rattle.std.proofs.Common.{sym, ap, ap₂, ◌∙◌, subst, arith, lt_of_le_of_lt, mul-le-mul, true≢false, inl, inr, lit<, Fits, SFits, to_z, of_z, leb-true, le-leb, ltb-true, ltb-false, eq-eqb, ne_eqb}
 use Rattle.std.proofs.lemmas.Bool.{false≢true, lt-leb}
-use Rattle.std.specs.Int.Signed.{mag, lt_z}
+use Rattle.std.specs.Int.Signed.{mag, non_neg, lt_z}
 use Rattle.std.specs.Int.{w64}
 use mir.Val.{bool_byte}
 use Rattle.std.proofs.lemmas.Int.{to_z-of_z, to_z_pos}
@@ -179,10 +179,12 @@ below_one_of (negsuc n) h = refl
 pub below_one : (z : ℤ) → SFits w64 z → lt_z (to_z w64 (of_z w64 z)) (pos 1) ≡ true → times z ≡ 0
 below_one z fits h = below_one_of z (ap (λ (w : ℤ). lt_z w (pos 1)) (sym (to_z-of_z w64 z fits)) ∙ h)
 
-from_one_of : (z : ℤ) → lt_z z (pos 1) ≡ false → nat_abs z ≡ times z
+from_one_of : (z : ℤ) → mag z < 9_223_372_036_854_775_808 → lt_z z (pos 1) ≡ false → (T (non_neg z) × Fits w64 (nat_abs z)) × (nat_abs z ≡ times z)
 unfolding times
-from_one_of (pos n) h = refl
-from_one_of (negsuc n) h = absurd (true≢false h)
+from_one_of (pos n) fits h = ((tt, record { fits = omega arith }), refl)
+from_one_of (negsuc n) fits h = absurd (true≢false h)
 
-pub from_one : (z : ℤ) → SFits w64 z → lt_z (to_z w64 (of_z w64 z)) (pos 1) ≡ false → nat_abs (to_z w64 (of_z w64 z)) ≡ times z
-from_one z fits h = subst (λ (w : ℤ). lt_z w (pos 1) ≡ false → nat_abs w ≡ times z) (sym (to_z-of_z w64 z fits)) (from_one_of z) h
+pub from_one : (z : ℤ) → SFits w64 z → lt_z (to_z w64 (of_z w64 z)) (pos 1) ≡ false
+    → (T (non_neg (to_z w64 (of_z w64 z))) × Fits w64 (nat_abs (to_z w64 (of_z w64 z)))) × (nat_abs (to_z w64 (of_z w64 z)) ≡ times z)
+from_one z fits h = subst (λ (w : ℤ). lt_z w (pos 1) ≡ false → (T (non_neg w) × Fits w64 (nat_abs w)) × (nat_abs w ≡ times z)) (sym (to_z-of_z w64 z fits))
+    (from_one_of z fits.sfits) h

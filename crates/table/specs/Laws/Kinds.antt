@@ -1,7 +1,8 @@
--- A kind's number is that of the kind.
+-- A kind's number is that of the kind, and no kind has a number above theirs.
 -- Assumes nothing.
-use Rattle.std.specs.Prelude.{◌≡◌, refl}
-use Rattle.std.proofs.Math.Option.{some}
+use Rattle.std.specs.Prelude.{◌≡◌, refl, ℕ, ◌≤◌}
+use Rattle.std.proofs.lemmas.List.{get_or_past}
+use Rattle.std.proofs.Math.Option.{some, none}
 use Rattle.rules.specs.Tree.{Operator}
 use Rattle.rules.specs.Table.{Kind, number_constant, truth_constant, variable, operator, skip, assign, sequence, if, repeat, kinds, kind_of}
 use Rattle.rules.proofs.Laws.Parts.{number_of_kind}
@@ -21,3 +22,7 @@ kind_back assign = refl
 kind_back sequence = refl
 kind_back if = refl
 kind_back repeat = refl
+
+pub kind_above : (k : ℕ) → 21 ≤ k → kind_of k ≡ none
+unfolding kind_of kinds
+kind_above k h = get_or_past kinds k none h

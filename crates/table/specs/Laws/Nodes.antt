@@ -1,7 +1,7 @@
 -- The nodes as the code meets them: by the place of their bytes, and by their fields.
 -- Assumes nothing.
 use Rattle.std.specs.Prelude.{◌≡◌, refl, ℕ, zero, suc, ◌+◌, ◌*◌, ◌%◌, ◌≤◌, ◌<◌, pos, ◌-ℤ◌, true, false, ltb, List, [], ◌∷◌, length, get_or, drop}
-use Rattle.std.proofs.Common.{ap, ◌∙◌, add-zero, add-suc, not-suc-le-zero, le_of_suc-le-suc, arith, ⊎_elim, drop_of_length-le, get_or-drop, drop-cons, drop-drop}
+use Rattle.std.proofs.Common.{ap, sym, ◌∙◌, add-zero, add-suc, not-suc-le-zero, le_of_suc-le-suc, arith, ⊎_elim, drop_of_length-le, get_or-drop, drop-cons, drop-drop}
 use Rattle.std.proofs.lemmas.Int.{ints}
 use Rattle.std.proofs.lemmas.Bool.{ltb-true, ltb-false}
 use Rattle.numbers.specs.Laws.{decide}
@@ -11,9 +11,10 @@ use Rattle.std.proofs.Math.Option.{none, some}
 use Rattle.rules.specs.Table as Table
 use Rattle.rules.specs.Table.{byte, u16, signed, header_length, variables, nodes, nodes_at, read_node, nodes_from, nodes_of, kind_of}
 use Rattle.rules.proofs.Laws.Parts.{kind_number}
+use Rattle.table.specs.declared.node.Fields.{Fields}
 use Rattle.table.specs.declared.node.Node.{Node}
 use Rattle.table.specs.Kinds.{paper_kind, kind_number_of}
-use Rattle.table.specs.Sorts.{node_of}
+use Rattle.table.specs.Sorts.{fields_of, node_of}
 
 -- ---- the fields of a node
 
@@ -44,25 +45,30 @@ four_bytes bytes at =
     let f : suc (at + 6) ≡ at + 7 = omega arith in
     rw (e, f) (omega arith)
 
--- a node is read where its bytes are
-pub node_read : (bytes : List ℕ) (at : ℕ) (x : Node)
-    → kind_of (byte bytes at) ≡ some (paper_kind x.kind) → x.tag ≡ byte bytes (at + 1)
-    → x.a ≡ u16 bytes (at + 2) → x.b ≡ u16 bytes (at + 4) → x.c ≡ u16 bytes (at + 6)
-    → (kind_of (read_node (drop at bytes)).kind ≡ some (paper_kind x.kind)) × (node_of x ≡ read_node (drop at bytes))
+-- the fields are read where the definition reads them
+pub fields_read : (bytes : List ℕ) (at : ℕ) (x : Fields)
+    → x.kind ≡ byte bytes at → x.tag ≡ byte bytes (at + 1) → x.a ≡ u16 bytes (at + 2) → x.b ≡ u16 bytes (at + 4) → x.c ≡ u16 bytes (at + 6)
+    → fields_of x ≡ read_node (drop at bytes)
 unfolding read_node
-node_read bytes at x k t a b c =
-    let known : kind_of (byte (drop at bytes) 0) ≡ some (paper_kind x.kind) = rw (byte_drop bytes at) k in
-    let k' : kind_number_of x.kind ≡ byte (drop at bytes) 0 = kind_number _ _ known in
+fields_read bytes at x k t a b c =
+    let k' : x.kind ≡ byte (drop at bytes) 0 = rw (byte_drop bytes at) k in
     let t' : x.tag ≡ byte (drop at bytes) 1 = rw (get_or-drop at bytes 1 0) t in
     let a' : x.a ≡ u16 (drop at bytes) 2 = rw (u16_drop bytes at 2) a in
     let b' : x.b ≡ u16 (drop at bytes) 4 = rw (u16_drop bytes at 4) b in
     let c' : x.c ≡ u16 (drop at bytes) 6 = rw (u16_drop bytes at 6) c in
-    (known, λ i. record { kind = k' i; tag = t' i; a = a' i; b = b' i; c = c' i })
+    λ i. record { kind = k' i; tag = t' i; a = a' i; b = b' i; c = c' i }
+
+-- a node of these fields is read, where its kind is one
+pub node_read : (n : Table.Node) (x : Fields) (y : Node) → fields_of x ≡ n → kind_of x.kind ≡ some (paper_kind y.kind)
+    → y.tag ≡ x.tag → y.a ≡ x.a → y.b ≡ x.b → y.c ≡ x.c → (kind_of n.kind ≡ some (paper_kind y.kind)) × (node_of y ≡ n)
+node_read n x y e k t a b c =
+    let same : kind_number_of y.kind ≡ x.kind = kind_number _ _ k in
+    let fields : node_of y ≡ fields_of x = λ i. record { kind = same i; tag = t i; a = a i; b = b i; c = c i } in
+    (ap kind_of (sym (ap (λ m. m.kind) e)) ∙ k, fields ∙ e)
 
 -- and is none where its kind is none
-pub node_unknown : (bytes : List ℕ) (at : ℕ) → kind_of (byte bytes at) ≡ none → kind_of (read_node (drop at bytes)).kind ≡ none
-unfolding read_node
-node_unknown bytes at e = rw (byte_drop bytes at) e
+pub node_unknown : (n : Table.Node) (x : Fields) → fields_of x ≡ n → kind_of x.kind ≡ none → kind_of n.kind ≡ none
+node_unknown n x e k = ap kind_of (sym (ap (λ m. m.kind) e)) ∙ k
 
 -- ---- the nodes in their order
 

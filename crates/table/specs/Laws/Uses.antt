@@ -157,11 +157,11 @@ once_told (suc m) counts places h same =
     (tells_need use_wrong (eqb (get_or counts m 0) 1) _ _ (once_told m counts places (omega arith) same))
 
 -- the test of all counts but the root's is the check of the uses
-pub uses_told : (bytes : List ℕ) (v n : ℕ) → Headed bytes v n → (i : ℕ) → n ≡ i → (counts : List ℕ) → UsesLeft bytes i counts → (r : Bool)
+pub uses_told : (bytes : List ℕ) (v n : ℕ) → Headed bytes v n → (i : ℕ) → n ≤ i → (counts : List ℕ) → UsesLeft bytes i counts → (r : Bool)
     → (r ≡ true) ↔ ((k : ℕ) → k < length (take (n - 1) counts) → get_or (take (n - 1) counts) k 0 ≡ 1) → Tells use_wrong (check_uses (n - 1) (children (nodes_of bytes))) r
 unfolding children uses
 uses_told bytes v n head i end counts left r once =
-    let nothing : drop i (nodes_of bytes) ≡ [] = nodes_end bytes n i head.n_is (omega arith) in
+    let nothing : drop i (nodes_of bytes) ≡ [] = nodes_end bytes n i head.n_is end in
     let few : n - 1 ≤ 512 = omega (arith, head.n_few) in
     let long : length (take (n - 1) counts) ≡ n - 1 = length-take-le (n - 1) counts (omega (arith, left.long)) in
     let same : (k : ℕ) → k < n - 1 → get_or (take (n - 1) counts) k 0 ≡ get_or counts k 0 = λ k h. get_or-take (n - 1) counts k 0 h in

@@ -8,10 +8,10 @@ use Rattle.patchlist.proofs.Sessions.{session_refused, session_opened}
 use Rattle.patchlist.proofs.listing.list.Goals as goal
 
 pub returns-then-not-opens : goal.returns-then-not-opens
-returns-then-not-opens g c = session_refused c.args.s.now c.args.last.now (sym c.opens.ensures ∙ c.if-not-opens.true)
+returns-then-not-opens c = session_refused c.args.s.now c.args.last.now (sym c.opens.ensures ∙ c.if-not-opens.true)
 
 pub returns : goal.returns
-returns g c =
+returns c =
     let n : 8 + c.pair-end.result - 8 ≡ u16 c.args.s.now 2 = omega (arith, c.pair-end.ensures.0) in
     session_opened c.args.s.now c.args.last.now (sym c.opens.ensures ∙ c.if-not-opens.false)
     (8 + c.pair-end.result - 8) (8 + c.pair-end.result) c.pair.result n (ap (8 +◌) c.pair-end.ensures.0) c.pair.ensures.0 c.list_table.ensures

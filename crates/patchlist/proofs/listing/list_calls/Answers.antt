@@ -13,7 +13,7 @@ use borrow.Author.Rules.{rules}
 use Rattle.patchlist.proofs.listing.list_calls.Goals as goal
 
 pub returns-in-Accepted : goal.returns-in-Accepted
-returns-in-Accepted g c =
+returns-in-Accepted c =
     let s = c.args.session.now in
     let width : 1 + s.variables - 1 ≡ s.variables = omega arith in
     let limit_is : to_z w64 (of_z w64 (at c.args.words.now 0)) ≡ at c.args.words.now 0 = to_z-of_z w64 _ (search rules) in
@@ -22,7 +22,7 @@ returns-in-Accepted g c =
     _ c.in-Accepted.is (to_the_end c.args.words.now (1 + s.variables)) c.list_patches.ensures
 
 pub returns-in_default : goal.returns-in_default
-returns-in_default g c =
+returns-in_default c =
     let s = c.args.session.now in
     let width : 1 + s.variables - 1 ≡ s.variables = omega arith in
     let limit_is : to_z w64 (of_z w64 (at c.args.words.now 0)) ≡ at c.args.words.now 0 = to_z-of_z w64 _ (search rules) in

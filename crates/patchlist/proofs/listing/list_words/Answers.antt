@@ -7,13 +7,13 @@ use Rattle.patchlist.proofs.Sessions.{words_are, words_wrong, words_right}
 use Rattle.patchlist.proofs.listing.list_words.Goals as goal
 
 pub returns-then-behind-count : goal.returns-then-behind-count
-returns-then-behind-count g c =
+returns-then-behind-count c =
     let s = c.args.session.now in
     words_wrong s.table.now s.variables s.patches c.args.behind.now c.args.last.now c.word_count-count.result c.word_count-count.ensures.0
     c.if-behind-count.true
 
 pub returns : goal.returns
-returns g c =
+returns c =
     let s = c.args.session.now in
     let long : length c.decode.new.words ≡ c.word_count-count.result = search rules in
     let words = words_are c.args.behind.now c.decode.new.words c.word_count-count.result long c.decode.ensures.decoded in

@@ -1,15 +1,19 @@
 -- `pieces::entry::meet` meets its contract: each word is read back as it was written, so each test is the definition's.
 -- Assumes nothing.
-use mathlib.Core.Path.{◌≡◌, sym, ap, ◌∙◌}
-use Prim.Native.Nat.{◌+◌, ◌-◌}
+use mathlib.Core.Path.{◌≡◌, refl, sym, ap, ◌∙◌}
+use Prim.Native.Nat.{ℕ, ◌+◌, ◌-◌}
 use native.Mathlib.Omega.{arith}
 use lib.IntN.{ℤ, pos, nat_abs}
 use mir.Syntax.{w64}
 use mir.Val.{to_z, of_z}
 use mir.ValLaws.{to_z-of_z, to_z_pos}
 use borrow.Author.Rules.{rules}
+use Rattle.std.specs.Prelude.{Option, None, Some, Result, Ok, Err, ok_or}
+use Rattle.std.specs.Result.{result_ok}
 use Rattle.rules.specs.Value.{at}
+use Rattle.table.specs.declared.answer.Refusal.{Refusal}
 use Rattle.run.specs.Call.{limited}
+use Rattle.run.specs.Laws.Statements.{refusal_up}
 use Rattle.pieces.specs.Laws.Entry.{InSize, in_size, under_three, other_node, too_small, too_long, not_last, outside_limits, entry_met}
 use Rattle.pieces.specs.Laws.Changes.{kept}
 use Rattle.pieces.proofs.entry.meet.Goals as goal
@@ -56,11 +60,26 @@ returns-then-not-ends c =
     not_last s.node s.last s.old.now s.from s.end c.requires.0 c.if-end-from-lt3.false (sized w)
     (ap (λ (z : ℤ). s.from + nat_abs z) (size_back w)) (sym c.ends.ensures ∙ c.if-not-ends.true)
 
-pub returns-in_default : goal.returns-in_default
-returns-in_default c =
+-- the test of the steps' word, by what it answers
+limit_some : (o : Option ℕ) {steps : ℕ} → ok_or o Refusal.Broken ≡ Ok steps → o ≡ Some steps
+limit_some None e = ap result_ok e
+limit_some (Some n) e = ap result_ok e
+
+abbrev reason : Result ℕ Refusal → Refusal
+reason (Ok n) = Refusal.Broken
+reason (Err q) = q
+
+limit_none : (o : Option ℕ) {q : Refusal} → ok_or o Refusal.Broken ≡ Err q → (o ≡ None) × (q ≡ Refusal.Broken)
+limit_none None e = (refl, sym (ap reason e))
+limit_none (Some n) e = (ap result_ok e, sym (ap reason e))
+
+pub returns-in_err-steps : goal.returns-in_err-steps
+returns-in_err-steps c =
     let s = c.args in
-    outside_limits s.node s.last s.old.now s.from s.end c.requires.0 c.if-end-from-lt3.false (sized (goal.at.returns-in_default c).Else-size-end)
-    (sym (limit (goal.at.returns-in_default c).After-read_limit) ∙ c.in_default.is)
+    let none = limit_none _ (sym c.ok_or.ensures.value ∙ c.in_err-steps.was) in
+    rw (refusal_up c.from_residual.ensures.1, none.1)
+    (outside_limits s.node s.last s.old.now s.from s.end c.requires.0 c.if-end-from-lt3.false (sized (goal.at.returns-in_err-steps c).Else-size-end)
+    (sym (limit (goal.at.returns-in_err-steps c).After-read_limit) ∙ none.0))
 
 pub returns : goal.returns
 returns c =
@@ -70,4 +89,4 @@ returns c =
     = sym (to_z-of_z w64 _ (search rules)) ∙ ap (to_z w64) c.if-old-from.false ∙ to_z_pos w64 _ (omega (arith, c.requires)) in
     entry_met s.node s.last s.old.now s.from s.end c.requires.0 c.if-end-from-lt3.false (sized w) here
     (ap (λ (z : ℤ). s.from + nat_abs z) (size_back w)) (sym c.ends.ensures ∙ c.if-not-ends.false)
-    (sym (limit (goal.at.returns c).After-read_limit) ∙ c.in-Some.is)
+    (sym (limit (goal.at.returns c).After-read_limit) ∙ limit_some _ (sym c.ok_or.ensures.value ∙ c.in_ok-steps.was))

@@ -8,4 +8,4 @@ pub returns-then-count-lt1 : goal.returns-then-count-lt1
 returns-then-count-lt1 c = sym (below_one c.args.count c.ranges.count c.if-count-lt1.true)
 
 pub returns : goal.returns
-returns c = from_one c.args.count c.ranges.count c.if-count-lt1.false
+returns c = (from_one c.args.count c.ranges.count c.if-count-lt1.false).1

@@ -1,7 +1,8 @@
--- `table::node::read` meets its contract: each field is read where the definition reads it.
+-- `table::node::read` meets its contract: the fields are the node's, and its kind is theirs.
 -- Assumes nothing.
+use mathlib.Core.Path.{refl}
 use Rattle.table.specs.Laws.Nodes.{node_read}
 use Rattle.table.proofs.node.read.Goals as goal
 
 pub returns : goal.returns
-returns c = node_read _ _ _ c.in_ok-kind.ensures c.from.ensures c.pair.ensures.0 c.pair-2.ensures.0 c.pair-3.ensures.0
+returns c = node_read _ _ _ c.fields_at-x.ensures c.in_ok-try_from.ensures refl refl refl refl
