@@ -48,8 +48,8 @@
  *     say by how much: lend a longer buffer and call again. Once there is room, more of it only adds zeros; but every
  *     call writes its whole buffer, so one that is far too long costs time.
  *     Time: a run takes at most `limit` steps, a patch at most the limit of the run that began its record.
- *     Stack: at most 160 KiB. On x86-64 a patch of a table nested 24 deep takes up to 154 KiB, and one of a flat script
- *     up to 31 KiB. This is measured, not proved. Mind it where calls are made from fibers or small threads.
+ *     Stack: at most 160 KiB. On x86-64 a patch of a table nested 24 deep takes up to 145 KiB, and one of a flat script
+ *     up to 37 KiB. This is measured, not proved. Mind it where calls are made from fibers or small threads.
  *
  * What to keep
  *     A record belongs to its table: patch it with the same bytes. It is plain words, in the machine's byte order, and

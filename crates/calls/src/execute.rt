@@ -2,7 +2,7 @@
 ghost use Rattle.calls.specs.Stream.{Within};
 
 use crate::stream::{
-    Call, CallError, Kind, MOST_BYTES, MOST_ROOM, MOST_WORDS, read_bytes, read_words,
+    Call, CallError, Kind, MOST_BYTES, MOST_ROOM, MOST_WORDS, WORD_BYTES, read_bytes, read_words,
 };
 use patch::call::patch;
 use run::call::run;
@@ -50,18 +50,23 @@ fn write_answer(answer: Answer, buffer: &[i64]) -> Written<()> {
     Ok(())
 }
 
-// Reads the rest of a call, executes it and writes its line, before anything behind it is read; a write that fails is not told.
-pub fn execute(call: Call) -> Result<(), CallError>
+// Reads the rest of a call, executes it and writes its line, before anything behind it is read; a write that fails is not told. What it is
+// read into and the buffer are lent, since they serve all calls.
+pub fn execute(
+    call: Call,
+    table: &mut [u8; MOST_BYTES],
+    bytes: &mut [u8; WORD_BYTES],
+    words: &mut [i64; MOST_WORDS],
+    buffer: &mut [i64; MOST_ROOM],
+) -> Result<(), CallError>
     requires { Within call }
 {
-    let mut table = [0u8; MOST_BYTES];
     let table = &mut table[..call.bytes];
     read_bytes(table)?;
-    let mut words = [0i64; MOST_WORDS];
     let words = &mut words[..call.words];
-    read_words(words)?;
-    let mut buffer = [BEFORE; MOST_ROOM];
+    read_words(bytes, words)?;
     let buffer = &mut buffer[..call.room];
+    buffer.fill(BEFORE);
     let _told = match call.kind {
         Kind::Check => write_check(Outcome::from(check(table))),
         Kind::Run => {

@@ -19,25 +19,29 @@
 // Each line is written before the next call is read, and nothing behind a call is read before it is executed. A read that fails counts
 // as the end of the input, and a write that fails is not told.
 //
-// A call's arrays stand on the stack, since memory that is asked for may fail: 8,192 bytes for the table, 32,768 for the words, as many
-// for their bytes while they are read, as many for the buffer, and 4,096 for the text of its line.
+// The calls' arrays stand on the stack, since memory that is asked for may fail: 8,192 bytes for a table, 32,768 for words, as many
+// for their bytes while they are read, as many for the buffer, and 4,096 for the text of a line.
 #![tactic(auto)]
 
 mod execute;
 mod stream;
 
 use crate::execute::execute;
-use crate::stream::{CallError, next_call};
+use crate::stream::{CallError, MOST_BYTES, MOST_ROOM, MOST_WORDS, WORD_BYTES, next_call};
 use std::io::{Cursor, Result as Written, Write};
 use text::line::{MOST_TEXT, write_out};
 
 // Executes calls until the input ends; a proved loop has to end, so the turns are counted, to a number that no run uses up.
 fn execute_all() -> Result<(), CallError> {
+    let mut table = [0u8; MOST_BYTES];
+    let mut bytes = [0u8; WORD_BYTES];
+    let mut words = [0i64; MOST_WORDS];
+    let mut buffer = [0i64; MOST_ROOM];
     for _ in 0..u64::MAX {
         let Some(call) = next_call()? else {
             break;
         };
-        execute(call)?;
+        execute(call, &mut table, &mut bytes, &mut words, &mut buffer)?;
     }
     Ok(())
 }

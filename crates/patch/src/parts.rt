@@ -26,8 +26,10 @@ fn assigned(reached: Reached, v: usize, change: i64, end: usize, length: usize) 
     requires { (v < 32) × (reached.at + length ≤ farthest) }
     ensures { AssignedAs reached v change end length result }
 {
+    let mut changes = reached.changes;
+    changes.values[v] = change;
     let mut next = reached;
-    next.changes.values[v] = change;
+    next.changes = changes;
     next.from = end;
     next.at += length;
     next
@@ -84,6 +86,7 @@ fn head_fits(
     if !in_type(kind, old[from]) {
         return false;
     }
+    let changes = reached.changes;
     patch_snapshot(
         script.checked.table,
         script.lists,
@@ -91,7 +94,7 @@ fn head_fits(
         old,
         from + 1,
         end,
-        &reached.changes.values,
+        &changes.values,
         out,
         reached.at + 1,
     )
@@ -124,10 +127,11 @@ pub fn fork(
     ) {
         return Err(Refusal::Broken);
     }
+    let changes = reached.changes;
     shift(
         &script.checked,
         script.node(node).a,
-        &reached.changes.values,
+        &changes.values,
         old,
         reached.from + 1 + 2 * w,
         end,
@@ -149,12 +153,13 @@ fn freshened(
     requires { Freshened script.now node old.now from ran reached }
     ensures { FreshAs script.now node old.now from end ran reached result }
 {
+    let store = ran.store;
     let mut next = reached;
     next.changes = settled(
         script.checked.table,
         script.lists,
         node,
-        &ran.store.values,
+        &store.values,
         old,
         from,
         reached.changes,
@@ -182,20 +187,22 @@ pub fn flipped(
     let from = reached.from;
     let at = reached.at;
     let w = script.mentions(node).len();
+    let changes = reached.changes;
     let store = started(
         script.checked.table,
         script.lists,
         node,
         old,
         from + 1,
-        &reached.changes.values,
+        &changes.values,
     );
     let condition = old[from];
     let top = script.node(node);
     let other = taken(top.b, top.c, 1 - condition);
     let behind = at + 1 + 2 * w + length;
     let ran = statement(script, other, store, reached.left, out, behind)?;
-    snapshot(script.lists, node, &ran.store.values, out, at + 1 + w);
+    let after = ran.store;
+    snapshot(script.lists, node, &after.values, out, at + 1 + w);
     put(out, at, plus(Type::Truth, condition, change));
     Ok(freshened(script, node, old, from + 1 + w, end, ran, reached))
 }
@@ -216,11 +223,12 @@ pub fn count(
         return Err(Refusal::Broken);
     }
     let w = script.mentions(node).len();
+    let changes = reached.changes;
     operand(
         &script.checked,
         script.node(node).a,
         old[reached.from],
-        &reached.changes.values,
+        &changes.values,
         old,
         reached.from + 1 + w,
         end,
@@ -242,6 +250,7 @@ pub fn snapped(
     requires { Snappable t.now lists.now.lists node old.now end reached }
     ensures { SnapsTo t.now lists.now.lists node old.now end reached result out.old out.new }
 {
+    let changes = reached.changes;
     if !patch_snapshot(
         t,
         lists,
@@ -249,7 +258,7 @@ pub fn snapped(
         old,
         reached.from,
         end,
-        &reached.changes.values,
+        &changes.values,
         out,
         reached.at,
     ) {
@@ -272,13 +281,14 @@ fn grown(
     requires { Endable script.now node body last old.now reached.from reached × (0 < more) }
     ensures { EndsTo script.now node body 0 more last old.now reached.from reached result out.old out.new }
 {
+    let changes = reached.changes;
     let store = started(
         script.checked.table,
         script.lists,
         node,
         old,
         last,
-        &reached.changes.values,
+        &changes.values,
     );
     let ran = repeat(
         script,

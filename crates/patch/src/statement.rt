@@ -28,7 +28,8 @@ pub fn visit(
     ensures { VisitsTo script.now node last old.now end reached result out.old out.new }
 {
     let met = meet(node, last, old, reached.from, end)?;
-    if unchanged(script.lists, node, &reached.changes.values) {
+    let changes = reached.changes;
+    if unchanged(script.lists, node, &changes.values) {
         return skip(old, met, reached, out);
     }
     pay(script, node, old, met.stop, reached, out)
@@ -139,13 +140,14 @@ fn kept(
     let same = taken(top.b, top.c, condition);
     let behind = advanced(reached, 1 + 2 * w + length);
     let gone = visit(script, same, true, old, end, behind, out)?;
+    let changes = gone.changes;
     if !move_snapshot(
         script.checked.table,
         script.lists,
         node,
         old,
         from + 1 + w,
-        &gone.changes.values,
+        &changes.values,
         out,
         at + 1 + w,
     ) {

@@ -4,17 +4,21 @@ use mathlib.Core.Path.{◌≡◌, refl, sym, ap, ◌∙◌}
 use mathlib.Core.Logic.{◌⊎◌, inl, inr}
 use Prim.Native.Nat.{ℕ, zero, suc, ◌+◌, ◌-◌, ◌≤◌, ◌<◌, min}
 use native.Mathlib.Omega.{arith}
-use mathlib.Core.List.{List, [], ◌∷◌, ◌++◌}
-use lib.ListN.{length, set, take, drop, length-set}
+use mathlib.Core.List.{List, [], ◌∷◌}
+use lib.ListN.{length, set, take, length-set}
 use lib.Seq.{set_out, take_all}
-use lib.IntN.{ℤ}
-use borrow.Rule.Slice.PartMut.{put_mid}
+use lib.IntN.{ℤ, pos}
+use mir.Syntax.{w64}
+use mir.Val.{SFits}
 use Rattle.std.specs.Prelude.{leb, true, false}
-use Rattle.std.proofs.Common.{drop-drop, leb-true, leb-false}
-use Rattle.numbers.specs.Lay.{lay, lay_inside}
+use Rattle.std.proofs.Common.{leb-true, leb-false}
+use Rattle.numbers.specs.Lay.{lay}
 use Rattle.numbers.specs.Laws.{decide}
+use Rattle.rules.specs.Value.{at}
+use Rattle.run.specs.Laws.Laying.{Laid, laid_by}
 use Rattle.pieces.specs.Old.{part, Inside}
-use Rattle.pieces.specs.Laws.Old.{part_long, part_take}
+use Rattle.pieces.specs.Laws.Old.{part_at_lem, part_long}
+use Rattle.pieces.specs.Laws.Changes.{kept}
 
 -- words laid past the end change nothing
 pub lay_past : (out : List ℤ) (place : ℕ) (ws : List ℤ) → length out ≤ place → lay out place ws ≡ out
@@ -46,15 +50,15 @@ module _ {old : List ℤ} (out : List ℤ) {from stop place count : ℕ} (lies :
           let more = leb-false _ _ e in
           lay_reach out place (part old from stop) count (omega (arith, is))
 
-  pub copied : {ws : List ℤ} {k : ℕ} → k ≡ count → ws ≡ part old from (from + count) → put_mid place k out ws ≡ lay out place (part old from stop)
-  copied {ws} {k} e f =
-      let inside : from + count ≤ stop = omega (arith, is, lies.ordered) in
-      let words : ws ≡ take count (part old from stop) = f ∙ sym (part_take old from stop count inside) in
-      let long : length (take count (part old from stop)) ≡ count = ap length (sym words ∙ f) ∙ part_long old from (from + count) (omega (arith, lies.ends)) ∙ omega arith in
-      let reach : place + length (take count (part old from stop)) ≤ length out = omega (arith, is) in
-      rw (e, words) (by_parts long ∙ sym (lay_inside out place (take count (part old from stop)) reach) ∙ all)
-    where
-      by_parts : length (take count (part old from stop)) ≡ count
-          → put_mid place count out (take count (part old from stop))
-          ≡ take place out ++ (take count (part old from stop) ++ drop (place + length (take count (part old from stop))) out)
-      by_parts long = rw long (ap (λ (l : List ℤ). take place out ++ (take count (part old from stop) ++ l)) (drop-drop count place out))
+  -- the last turn leaves them all
+  pub copied_all : {i : ℕ} {after : List ℤ} → Laid out place (part old from stop) i after → count ≤ i → i ≤ count
+      → after ≡ lay out place (part old from stop)
+  copied_all {i} laid low high =
+      let same : i ≡ count = omega arith in
+      laid.is ∙ ap (λ (n : ℕ). lay out place (take n (part old from stop))) same ∙ all
+
+-- a turn copies the next word
+pub copied_more : {old out₀ out : List ℤ} {from stop place i : ℕ} → Inside old from stop → Laid out₀ place (part old from stop) i out → i < stop - from
+    → SFits w64 (at old (from + i)) → Laid out₀ place (part old from stop) (i + 1) (set out (place + i) (kept (at old (from + i))))
+copied_more {old} {from} {stop} {i} lies laid below fits =
+    laid_by (pos 0) laid (omega (arith, part_long old from stop lies.ends)) (sym (part_at_lem old from stop i below)) fits refl

@@ -12,7 +12,8 @@ use table::answer::{Refusal, Store};
 use table::kind::Kind;
 use table::script::Script;
 
-// Where an accepted run of a statement has come to: the store, the steps that are left, and the place behind its words.
+// Where an accepted run of a statement has come to: the store, the steps that are left, and the place behind its words. The store is
+// taken out before it is lent: so the compiler copies the array alone, and keeps the numbers in registers.
 #[derive(Clone, Copy, Drop)]
 pub struct Ran {
     pub store: Store,
@@ -174,7 +175,8 @@ fn take(
     let top = script.node(node);
     let branch = taken(top.b, top.c, condition);
     let ran = statement(script, branch, store, left, out, at)?;
-    snapshot(script.lists, node, &ran.store.values, out, after);
+    let ended = ran.store;
+    snapshot(script.lists, node, &ended.values, out, after);
     Ok(ran)
 }
 
@@ -216,7 +218,8 @@ pub fn repeat(
     let mut so_far = Ran { store, left, at };
     for _ in 0..count {
         so_far = statement(script, body, so_far.store, so_far.left, out, so_far.at)?;
-        so_far.at = snapshot(script.lists, node, &so_far.store.values, out, so_far.at);
+        let ended = so_far.store;
+        so_far.at = snapshot(script.lists, node, &ended.values, out, so_far.at);
     }
     Ok(so_far)
 }
