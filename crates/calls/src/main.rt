@@ -19,39 +19,37 @@
 // Each line is written before the next call is read, and nothing behind a call is read before it is executed. A read that fails counts
 // as the end of the input, and a write that fails is not told.
 //
-// The calls' arrays stand on the stack, since memory that is asked for may fail: 8,192 bytes for a table, 32,768 for words, as many
-// for their bytes while they are read, as many for the buffer, and 4,096 for the text of a line.
+// The calls' arrays stand on the stack, since memory that is asked for may fail: 8,192 bytes for a table, 32,768 for words and as many for
+// the buffer; 32,768 for the words' bytes while they are read, and 4,096 for the text of a line while it is written.
 #![tactic(auto)]
 
 mod execute;
 mod stream;
 
 use crate::execute::execute;
-use crate::stream::{CallError, MOST_BYTES, MOST_ROOM, MOST_WORDS, WORD_BYTES, next_call};
-use std::io::{Cursor, Result as Written, Write};
-use text::line::{MOST_TEXT, write_out};
+use crate::stream::{CallError, MOST_BYTES, MOST_ROOM, MOST_WORDS, next_call};
+use std::io::{Result as Written, Write};
+use text::line::Text;
 
 // Executes calls until the input ends; a proved loop has to end, so the turns are counted, to a number that no run uses up.
 fn execute_all() -> Result<(), CallError> {
     let mut table = [0u8; MOST_BYTES];
-    let mut bytes = [0u8; WORD_BYTES];
     let mut words = [0i64; MOST_WORDS];
     let mut buffer = [0i64; MOST_ROOM];
     for _ in 0..u64::MAX {
         let Some(call) = next_call()? else {
             break;
         };
-        execute(call, &mut table, &mut bytes, &mut words, &mut buffer)?;
+        execute(call, &mut table, &mut words, &mut buffer)?;
     }
     Ok(())
 }
 
 // Writes the line that says why nothing more is executed.
 fn write_error(error: CallError) -> Written<()> {
-    let mut text = Cursor::new([0u8; MOST_TEXT]);
+    let mut text = Text::new();
     writeln!(text, "calls: {error}")?;
-    write_out(&mut text);
-    Ok(())
+    text.flush()
 }
 
 fn main() {

@@ -12,7 +12,7 @@ pub const MOST_WORDS: usize = 4096;
 pub const MOST_ROOM: usize = 4096;
 
 // The bytes of the most words.
-pub const WORD_BYTES: usize = 32768;
+const WORD_BYTES: usize = 32768;
 
 // The bytes of the five numbers.
 const HEAD_BYTES: usize = 20;
@@ -121,11 +121,13 @@ pub fn read_bytes(bytes: &mut [u8]) -> Result<(), CallError> {
     Ok(())
 }
 
-// Fills the words from the input, by the bytes that they are read into.
-pub fn read_words(space: &mut [u8; WORD_BYTES], words: &mut [i64]) -> Result<(), CallError>
+// Fills the words from the input. It is called and not inlined, so that the bytes are gone when a call is executed.
+#[inline(never)]
+pub fn read_words(words: &mut [i64]) -> Result<(), CallError>
     requires { length words.old ≤ 4096 }
 {
-    let bytes = &mut space[..8 * words.len()];
+    let mut bytes = [0u8; WORD_BYTES];
+    let bytes = &mut bytes[..8 * words.len()];
     read_bytes(bytes)?;
     decode(bytes, words);
     Ok(())
