@@ -65,7 +65,7 @@ fn ends(last: bool, stop: usize, end: usize) -> bool
 }
 
 // Lays down the old record's words from a place up to a stop as one run of words; what falls past the buffer's end is only counted.
-// A loop, and no `copy_from_slice`: the C library's copy takes a sixth longer where both places lie alike in their pages, as they mostly do.
+// A loop, and no `copy_from_slice`: the C library's copy takes a sixth longer where both places lie alike in their pages.
 fn copy(old: &[i64], from: usize, stop: usize, out: &mut [i64], at: usize)
     requires { Copied old.now from stop at }
     ensures { out.new ≡ lay out.old at (part old.now from stop) }

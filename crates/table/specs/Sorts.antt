@@ -128,6 +128,20 @@ field_by bytes (Field.Child w) x tag parts = height_as (wanted_by bytes w tag) (
 abbrev pub height_by : ℕ → ℕ → ℕ → ℕ
 height_by a b c = min 25 (suc (max (max a b) c))
 
+-- the height of a field's child as it is kept, 0 where it has none or none is kept
+abbrev pub height_kept : Option Part → ℕ
+height_kept None = 0
+height_kept (Some p) = p.height
+
+abbrev pub child_height : Field → ℕ → List (Option Part) → ℕ
+child_height Field.Free x parts = 0
+child_height Field.Zero x parts = 0
+child_height (Field.Child w) x parts = height_kept (get_or parts x None)
+
+-- the height that a form gives a node, whether or not the node fits it
+abbrev pub height_for : Form → Table.Node → List (Option Part) → ℕ
+height_for f n parts = height_by (child_height f.a n.a parts) (child_height f.b n.b parts) (child_height f.c n.c parts)
+
 unfoldable pub part_by : List ℕ → ℕ → Form → Table.Node → List (Option Part) → Result Part Refusal
 part_by bytes v f n parts =
     choose (tag_fits f.tag n.tag v)

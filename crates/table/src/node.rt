@@ -3,7 +3,7 @@ ghost use Rattle.std.specs.Prelude.{◌≡◌, ◌≢◌, ◌+◌, ◌<◌, ◌�
 ghost use Rattle.std.proofs.Math.Option.{none};
 ghost use Rattle.rules.specs.Table.{read_node, kind_of};
 ghost use Rattle.table.specs.Kinds.{paper_type, paper_kind};
-ghost use Rattle.table.specs.Sorts.{fields_of, node_of, IsRead, sort_of_type, form, form_by, tag_fits, wanted_by, height_as, field_by, part_by};
+ghost use Rattle.table.specs.Sorts.{fields_of, node_of, IsRead, sort_of_type, form, form_by, tag_fits, wanted_by, height_as, field_by, child_height, height_for, part_by};
 
 use crate::access::pair;
 use crate::answer::Refusal;
@@ -262,6 +262,32 @@ fn field_height(
             height_as(wanted_by(t, wanted, tag), part)
         }
     }
+}
+
+// The height of a field's child as it is kept, 0 where it has none or none is kept.
+fn child_height(rule: Field, x: usize, parts: &[Option<Part>; MOST_NODES]) -> u8
+    ensures { result ≡ child_height rule x parts.now }
+{
+    match rule {
+        Field::Free | Field::Zero => 0,
+        Field::Child(_) => {
+            let part = if x < MOST_NODES { parts[x] } else { None };
+            match part {
+                Some(part) => part.height,
+                None => 0,
+            }
+        }
+    }
+}
+
+// The height that a form gives a node, whether or not the node fits it.
+pub fn height_of(form: Form, x: Node, parts: &[Option<Part>; MOST_NODES]) -> u8
+    ensures { result ≡ height_for form (node_of x) parts.now }
+{
+    let a = child_height(form.a, x.a, parts);
+    let b = child_height(form.b, x.b, parts);
+    let c = child_height(form.c, x.c, parts);
+    a.max(b).max(c).saturating_add(1).min(MOST_DEPTH + 1)
 }
 
 // The part that a node makes of those before it, where this is asked of it; refused where it makes none.
