@@ -52,7 +52,7 @@ impl Text {
         }
     }
 
-    // Adds a count in decimal, by its digits and not by `Display`, which takes 1.4 times as long where 1,000 words are printed.
+    // Adds a count in decimal, by its digits and not by `Display`, which takes 1.3 times as long where 1,000 words are printed.
     pub fn add_count(&mut self, count: u64) {
         let mut digits = [0u8; 20];
         let n = io::decimal(count, &mut digits);
