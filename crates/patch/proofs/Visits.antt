@@ -12,11 +12,11 @@ use Rattle.rules.specs.Outcome as Paper
 use Rattle.rules.specs.Value.{unchanged}
 use Rattle.rules.specs.Table.{types_of}
 use Rattle.rules.specs.Patch.{Entry, Visited, Walk, meet, skipped, paid, visit, walk}
-use Rattle.table.specs.Agrees.{Accepts, accepts, handed_up}
+use Rattle.table.specs.Agrees.{Agrees, Accepts, accepts, handed_up}
 use Rattle.table.specs.declared.answer.Refusal.{Refusal}
 use Rattle.table.specs.declared.script.Script.{Script}
 use Rattle.pieces.specs.Old.{part, Inside}
-use Rattle.pieces.specs.Entry.{MetAt, MetAs, Sound, VisitAs, SkipsTo}
+use Rattle.pieces.specs.Entry.{MetAt, Sound, VisitAs, SkipsTo}
 use Rattle.patch.specs.Statement.{listed, Node, Visitable, VisitsTo, Payable, PaysTo}
 use Rattle.pieces.specs.declared.entry.Met.{Met}
 use Rattle.pieces.specs.declared.entry.Reached.{Reached}
@@ -52,13 +52,13 @@ module _ {script : Script} {node : ℕ} {old : List ℤ} {end : ℕ} {s : Reache
       (λ (n : ℕ) (vs : List ℕ). meet n last before >>= λ e. choose (unchanged vs s.changes.values) skipped (paid n own) e s.left s.changes.values)
       (node_is k) (sym (list_is k)))) w)
 
-  module _ {met : Result Met Refusal} (m : MetAs (meet node last before) met old s.from end) where
+  module _ {met : Result Met Refusal} (m : Agrees (MetAt old s.from end) (meet node last before) met) where
     pub visit_broken : {q : Refusal} → met ≡ Err q → (out after : List ℤ) → VisitsTo script node last old end s (Err q) out after
-    visit_broken {q} is out after = each (Err q) out after (handed_up (goes_on same) m.0 is)
+    visit_broken {q} is out after = each (Err q) out after (handed_up (goes_on same) m is)
 
     module _ {x : Met} (is : met ≡ Ok x) where
       here : Accepts (MetAt old s.from end) (meet node last before) x
-      here = accepts m.0 is
+      here = accepts m is
 
       abbrev at : MetAt old s.from end here.value x
       at = here.holds

@@ -1,8 +1,10 @@
 // Lines of text, gathered in an array and written out. No memory is asked for, and what writes is the kit's `write` alone.
-ghost use Rattle.std.specs.Prelude.{◌≤◌, None};
+ghost use Rattle.std.specs.Prelude.{◌≤◌, None, Some};
 ghost use Rattle.std.specs.Io.{WritesAtMost};
 ghost use Rattle.std.specs.Io.KnownBytes.{WriteAppends, Keeps};
+ghost use Rattle.text.specs.Lines.{counts_text, words_text};
 
+use std::fmt;
 use std::io::{Result as Written, Write};
 use table::answer::Answer;
 
@@ -99,6 +101,73 @@ impl Write for Text {
         ensures bytes { Keeps None None }
     {
         self.write_out();
+        Ok(())
+    }
+}
+
+// Words in decimal, each behind a space, for any writer.
+#[derive(Clone, Copy, Drop)]
+pub struct Words<'a>(pub &'a [i64]);
+
+impl fmt::Display for Words<'_> {
+    ghost output = { λ w. Some (words_text w.0.now) };
+
+    fn fmt<W: fmt::Write>(&self, f: &mut fmt::Formatter<W>) -> fmt::Result {
+        for word in self.0 {
+            write!(f, " {word}")?;
+        }
+        Ok(())
+    }
+}
+
+// The five counts of an answer, each behind a space, for any writer.
+#[derive(Clone, Copy, Drop)]
+pub struct Counts(pub Answer);
+
+impl fmt::Display for Counts {
+    ghost output = { λ c. Some (counts_text c.0) };
+
+    fn fmt<W: fmt::Write>(&self, f: &mut fmt::Formatter<W>) -> fmt::Result {
+        let answer = self.0;
+        write!(
+            f,
+            " {} {} {} {} {}",
+            answer.steps, answer.walked, answer.reused, answer.fresh, answer.length
+        )
+    }
+}
+
+#[cfg(test)]
+mod tests {
+    use super::*;
+    use std::test::Fail;
+    use table::answer::{Outcome, Refusal};
+
+    #[test]
+    fn words_print_behind_spaces(rt: HostRuntime) -> Result<(), Fail> {
+        let words = [0, -1, 2147483647, 9223372036854775807, i64::MIN];
+        let text = Words(&words).to_string(rt.alloc())?;
+        let want = " 0 -1 2147483647 9223372036854775807 -9223372036854775808";
+        assert_eq!(rt; text.as_str(), want);
+        let nothing = Words(&words[..0]).to_string(rt.alloc())?;
+        assert_eq!(rt; nothing.as_str(), "");
+        Ok(())
+    }
+
+    #[test]
+    fn counts_print_in_their_order(rt: HostRuntime) -> Result<(), Fail> {
+        let answer = Answer {
+            outcome: Outcome::Refused(Refusal::Fuel),
+            steps: 11,
+            walked: 2,
+            reused: 9,
+            fresh: 0,
+            length: 1000000,
+            values: [7; 32],
+            changes: [-7; 32],
+        };
+        let text = Counts(answer).to_string(rt.alloc())?;
+        assert_eq!(rt; text.as_str(), " 11 2 9 0 1000000");
         Ok(())
     }
 }

@@ -59,16 +59,30 @@ fields_read bytes at x k t a b c =
     λ i. record { kind = k' i; tag = t' i; a = a' i; b = b' i; c = c' i }
 
 -- a node of these fields is read, where its kind is one
-pub node_read : (n : Table.Node) (x : Fields) (y : Node) → fields_of x ≡ n → kind_of x.kind ≡ some (paper_kind y.kind)
+pub node_by_fields : (n : Table.Node) (x : Fields) (y : Node) → fields_of x ≡ n → kind_of x.kind ≡ some (paper_kind y.kind)
     → y.tag ≡ x.tag → y.a ≡ x.a → y.b ≡ x.b → y.c ≡ x.c → (kind_of n.kind ≡ some (paper_kind y.kind)) × (node_of y ≡ n)
-node_read n x y e k t a b c =
+node_by_fields n x y e k t a b c =
     let same : kind_number_of y.kind ≡ x.kind = kind_number _ _ k in
     let fields : node_of y ≡ fields_of x = λ i. record { kind = same i; tag = t i; a = a i; b = b i; c = c i } in
     (ap kind_of (sym (ap (λ m. m.kind) e)) ∙ k, fields ∙ e)
 
 -- and is none where its kind is none
-pub node_unknown : (n : Table.Node) (x : Fields) → fields_of x ≡ n → kind_of x.kind ≡ none → kind_of n.kind ≡ none
-node_unknown n x e k = ap kind_of (sym (ap (λ m. m.kind) e)) ∙ k
+pub unknown_by_fields : (n : Table.Node) (x : Fields) → fields_of x ≡ n → kind_of x.kind ≡ none → kind_of n.kind ≡ none
+unknown_by_fields n x e k = ap kind_of (sym (ap (λ m. m.kind) e)) ∙ k
+
+-- a node is read where its bytes are
+pub node_read : (bytes : List ℕ) (at : ℕ) (x : Node)
+    → kind_of (byte bytes at) ≡ some (paper_kind x.kind) → x.tag ≡ byte bytes (at + 1)
+    → x.a ≡ u16 bytes (at + 2) → x.b ≡ u16 bytes (at + 4) → x.c ≡ u16 bytes (at + 6)
+    → (kind_of (read_node (drop at bytes)).kind ≡ some (paper_kind x.kind)) × (node_of x ≡ read_node (drop at bytes))
+node_read bytes at x k t a b c =
+    let own : Fields = record { kind = byte bytes at; tag = x.tag; a = x.a; b = x.b; c = x.c } in
+    node_by_fields (read_node (drop at bytes)) own x (fields_read bytes at own refl t a b c) k refl refl refl refl
+
+-- and is none where its kind is none
+pub node_unknown : (bytes : List ℕ) (at : ℕ) → kind_of (byte bytes at) ≡ none → kind_of (read_node (drop at bytes)).kind ≡ none
+unfolding read_node
+node_unknown bytes at e = rw (byte_drop bytes at) e
 
 -- ---- the nodes in their order
 

@@ -270,19 +270,19 @@ turns-returns t c = turns_all c.requires c.args.count _ (c.loop.invariant c.requ
 -- `visit` in the cycle: the entry is met, and then skipped, or paid for and walked.
 
 pub visit-returns-in_err-met : goal.visit-returns-in_err-met
-visit-returns-in_err-met t c = rw (refusal_up c.from_residual.ensures.1) (visit_broken c.args.last c.requires c.meet.ensures c.in_err-met.was _ _)
+visit-returns-in_err-met t c = rw (refusal_up c.from_residual.ensures.1) (visit_broken c.args.last c.requires c.meet.ensures.0 c.in_err-met.was _ _)
 
 pub visit-unchanged-requires : goal.visit-unchanged-requires
 visit-unchanged-requires t c = named_row (named_of c.requires.known)
 
 pub visit-returns-then-unchanged : goal.visit-returns-then-unchanged
 visit-returns-then-unchanged t c =
-    visit_skipped c.args.last c.requires c.meet.ensures c.in_ok-met.was c.unchanged.ensures c.skip.result _ _ c.if-unchanged.true c.skip.ensures
+    visit_skipped c.args.last c.requires c.meet.ensures.0 c.in_ok-met.was c.unchanged.ensures c.skip.result _ _ c.if-unchanged.true c.skip.ensures
 
 pub visit-pay-requires : goal.visit-pay-requires
 visit-pay-requires t c =
-    (omega (arith, c.decreases), visit_payable c.args.last c.requires c.meet.ensures c.in_ok-met.was c.unchanged.ensures c.if-unchanged.false)
+    (omega (arith, c.decreases), visit_payable c.args.last c.requires c.meet.ensures.0 c.in_ok-met.was c.unchanged.ensures c.if-unchanged.false)
 
 pub visit-returns : goal.visit-returns
 visit-returns t c =
-    visit_paid c.args.last c.requires c.meet.ensures c.in_ok-met.was c.unchanged.ensures c.pay.result _ _ c.if-unchanged.false c.pay.ensures
+    visit_paid c.args.last c.requires c.meet.ensures.0 c.in_ok-met.was c.unchanged.ensures c.pay.result _ _ c.if-unchanged.false c.pay.ensures
